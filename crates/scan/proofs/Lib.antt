@@ -1,0 +1,5 @@
+pub mod Loops
+pub mod Parts
+pub mod Compares
+pub mod Trims
+pub mod Cuts

@@ -1,0 +1,89 @@
+-- Loops over the places of a list: what is still to look at from place i on. Each kind of loop has a record for its invariant, and a
+-- law for its start, for a turn and for each way out; a turn's test is told as the equation that the test's contract gives.
+-- Assumes nothing.
+use mathlib.Core.Path.{_≡_, refl, ap, _∙_, sym}
+use mathlib.Core.Bool.{Bool, true, false, cond}
+use mathlib.Core.List.{List, [], _∷_}
+use Prim.Native.Nat.{ℕ, suc, _+_, _-_, _≤_, _<_}
+use native.Mathlib.Numerals.{add-one}
+use native.Mathlib.Omega.{arith}
+use lib.ListN.{length, getD, drop, length-drop, drop-of-length-le}
+use lib.Seq.{drop-cons}
+use Rattle.scan.specs.Lists.{all, first, FirstOf, FirstFrom, part}
+use Rattle.scan.proofs.Parts.{part-rest}
+
+-- what any function says of the rest at i: it goes by the element at i and the rest at i + 1, and there is nothing at the end
+module _ {A B : Type 0} (f : List A → B) (l : List A) (i : ℕ) where
+  pub turn : (d : A) → i < length l → f (drop i l) ≡ f (getD l i d ∷ drop (i + 1) l)
+  turn d h = ap f (rw (add-one, drop-cons l i d))
+
+  pub end : length l ≤ i → f (drop i l) ≡ f []
+  end h = ap f (drop-of-length-le l h)
+
+module _ {A : Type 0} (p : A → Bool) where
+  -- the first element that passes is not before place i
+  pub record Seeking (l : List A) (i : ℕ) : Type 0 where
+    pub inside : i ≤ length l
+    pub same : i + first p (drop i l) ≡ first p l
+
+  pub seeking-start : (l : List A) → Seeking l 0
+  seeking-start l = record { inside = omega arith; same = omega arith }
+
+  pub seeking-end : {l : List A} {i : ℕ} → Seeking l i → length l ≤ i → FirstOf p l i
+  seeking-end {l} {i} s h =
+      let e = end (first p) l i h in
+      record { is = omega (arith, s .same); within = s .inside }
+
+  module _ {l : List A} {i : ℕ} (d : A) {t : Bool} (s : Seeking l i) (h : i < length l) (e : t ≡ p (getD l i d)) where
+    pub seeking-hit : t ≡ true → FirstOf p l i
+    seeking-hit y =
+        let z : first p (drop i l) ≡ 0 = turn (first p) l i d h ∙ rw (sym e ∙ y) in
+        record { is = omega (arith, s .same); within = s .inside }
+
+    pub seeking-more : t ≡ false → Seeking l (i + 1)
+    seeking-more n =
+        let z : first p (drop i l) ≡ suc (first p (drop (i + 1) l)) = turn (first p) l i d h ∙ rw (sym e ∙ n) in
+        record { inside = omega arith; same = omega arith ∙ s .same }
+
+  -- every element before place i passes
+  pub record Passing (l : List A) (i : ℕ) : Type 0 where
+    pub inside : i ≤ length l
+    pub same : all p (drop i l) ≡ all p l
+
+  pub passing-start : (l : List A) → Passing l 0
+  passing-start l = record { inside = omega arith; same = refl }
+
+  pub passing-end : {l : List A} {i : ℕ} → Passing l i → length l ≤ i → true ≡ all p l
+  passing-end {l} {i} s h = sym (end (all p) l i h) ∙ s .same
+
+  module _ {l : List A} {i : ℕ} (d : A) {t : Bool} (s : Passing l i) (h : i < length l) (e : t ≡ p (getD l i d)) where
+    pub passing-more : t ≡ true → Passing l (i + 1)
+    passing-more y =
+        record { inside = omega arith; same = sym (turn (all p) l i d h ∙ rw (sym e ∙ y)) ∙ s .same }
+
+    pub passing-not : t ≡ false → false ≡ all p l
+    passing-not n = sym (turn (all p) l i d h ∙ rw (sym e ∙ n)) ∙ s .same
+
+-- what is found in the rest from `at` on, and past the end
+module _ {A : Type 0} (p : A → Bool) (l : List A) (at : ℕ) where
+  pub first-past : length l < at → FirstFrom p l at at
+  first-past h =
+      let z = end (first p) l at (omega arith) in
+      record { is = omega arith; from = omega arith; within = λ w. absurd (omega arith) }
+
+  pub first-rest : {k : ℕ} → at ≤ length l → FirstOf p (part at (length l) l) k → FirstFrom p l at (at + k)
+  first-rest {k} h f =
+      let r : part at (length l) l ≡ drop at l = part-rest at (length l) l (omega arith) in
+      let n : length (drop at l) ≡ length l - at = length-drop at l in
+      let q : k ≡ first p (drop at l) = f .is ∙ ap (first p) r in
+      let w : k ≤ length (drop at l) = rw r at (f .within) in
+      record { is = omega arith; from = omega arith; within = λ _. omega arith }
+
+-- the first place that passes is at most the length
+pub first-within : {A : Type 0} (p : A → Bool) (l : List A) → first p l ≤ length l
+first-within p [] = omega arith
+first-within p (x ∷ l) = step (p x) (first-within p l)
+  where
+    step : (t : Bool) {m n : ℕ} → m ≤ n → cond t 0 (suc m) ≤ suc n
+    step true h = omega arith
+    step false h = omega arith

@@ -1,0 +1,66 @@
+-- Parts of a list: their length, a part of a part, and what a span of a part holds in the whole. Assumes nothing.
+use mathlib.Core.Path.{_≡_, refl, ap, _∙_, sym}
+use mathlib.Core.List.{List, [], _∷_, _++_}
+use Prim.Native.Nat.{ℕ, zero, suc, _+_, _-_, _≤_, _<_}
+use native.Mathlib.Nat.{suc-sub-suc, sub-zero, zero-sub}
+use native.Mathlib.Omega.{arith}
+use lib.ListN.{length, getD, take, drop, length-take, length-drop}
+use lib.Seq.{take-take, drop-drop, take-nil, take-all, take-suc, getD-drop}
+use Rattle.scan.specs.Lists.{part, Holds}
+
+module _ {A : Type 0} where
+  drop-take : (i n : ℕ) (l : List A) → drop i (take n l) ≡ take (n - i) (drop i l)
+  drop-take zero n l = rw sub-zero
+  drop-take (suc i) zero [] = sym (take-nil (0 - suc i))
+  drop-take (suc i) zero (x ∷ l) = rw zero-sub
+  drop-take (suc i) (suc n) [] = sym (take-nil (suc n - suc i))
+  drop-take (suc i) (suc n) (x ∷ l) = drop-take i n l ∙ rw suc-sub-suc
+
+  pub part-length : (a e : ℕ) (s : List A) → e ≤ length s → length (part a e s) ≡ e - a
+  part-length a e s h = simp (length-take, length-drop) (omega arith)
+
+  pub part-empty : (a e : ℕ) (s : List A) → e ≤ a → part a e s ≡ []
+  part-empty a e s h =
+      let n : e - a ≡ 0 = omega arith in
+      rw n
+
+  -- the part to the end is the rest
+  pub part-rest : (a e : ℕ) (s : List A) → length s ≤ e → part a e s ≡ drop a s
+  part-rest a e s h =
+      let d : length (drop a s) ≡ length s - a = length-drop a s in
+      take-all (e - a) (drop a s) (omega arith)
+
+  -- one element more at its end
+  pub part-more : (a e : ℕ) (s : List A) (d : A) → a ≤ e → e < length s → part a (e + 1) s ≡ part a e s ++ (getD s e d ∷ [])
+  part-more a e s d h k =
+      let n : e + 1 - a ≡ suc (e - a) = omega arith in
+      let r : length (drop a s) ≡ length s - a = length-drop a s in
+      let m : a + (e - a) ≡ e = omega arith in
+      rw n (take-suc (drop a s) (e - a) d (omega arith) ∙ ap (λ x. take (e - a) (drop a s) ++ (x ∷ [])) (getD-drop a s (e - a) d ∙ ap (λ j. getD s j d) m))
+
+  pub part-part : (i j a e : ℕ) (s : List A) → j ≤ e - a → part i j (part a e s) ≡ part (a + i) (a + j) s
+  part-part i j a e s h =
+      let n : a + j - (a + i) ≡ j - i = omega arith in
+      let m : j - i ≤ e - a - i = omega arith in
+      ap (take (j - i)) (drop-take i (e - a) (drop a s)) ∙ take-take (j - i) (e - a - i) (drop i (drop a s)) m
+      ∙ ap (take (j - i)) (drop-drop i a s) ∙ ap (λ k. take k (drop (a + i) s)) (sym n)
+
+  -- what a span of a part holds, it holds in the whole, moved by where the part starts
+  pub holds-inside : (a e : ℕ) (s : List A) {xs ys : List A} {i j : ℕ} → xs ≡ part a e s → a ≤ e → e ≤ length s → Holds xs ys i j → Holds s ys (a + i) (a + j)
+  holds-inside a e s {xs} {ys} {i} {j} q h k r =
+      let n : length xs ≡ e - a = ap length q ∙ part-length a e s k in
+      let w : j ≤ length xs = r .within in
+      let o : i ≤ j = r .order in
+      record {
+        order = omega arith;
+        within = omega arith;
+        is = sym (part-part i j a e s (omega arith)) ∙ ap (part i j) (sym q) ∙ r .is;
+      }
+
+  -- a span is as long as what it holds
+  pub holds-length : {xs ys : List A} {i j : ℕ} → Holds xs ys i j → j ≡ i + length ys
+  holds-length {xs} {ys} {i} {j} r =
+      let n : length (part i j xs) ≡ j - i = part-length i j xs (r .within) in
+      let m : length (part i j xs) ≡ length ys = ap length (r .is) in
+      let o : i ≤ j = r .order in
+      omega arith

@@ -1,0 +1,6 @@
+pub mod Text
+pub mod Lists
+pub mod Classes
+pub mod Compare
+pub mod Trim
+pub mod Cut

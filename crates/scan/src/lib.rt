@@ -1,0 +1,173 @@
+// Looking at bytes: classes of bytes, the first byte of a class, two texts compared, outer spaces removed. Every function has an
+// answer for all bytes and all places. A call looks at each byte at most once, `trimmed` at most twice, and copies none.
+ghost use mathlib.Core.Path.{_≡_};
+ghost use lib.Dec.{eqb};
+ghost use Rattle.scan.specs.Lists.{all, FirstOf, FirstFrom};
+ghost use Rattle.scan.specs.Classes.{isDigit, isCapital, isName, isText, inClass};
+ghost use Rattle.scan.specs.Compare.{seen, areAlike};
+ghost use Rattle.scan.specs.Trim.{Trimmed};
+
+// A class of bytes, handed to a scan.
+pub enum Class {
+    // One byte.
+    Is(u8),
+    // Any byte but one.
+    Not(u8),
+    // 0 to 9.
+    Digit,
+    // Letters, digits, hyphen, dot.
+    Name,
+    // 32 to 126.
+    Text,
+    // Any other.
+    NotText,
+}
+
+fn is_digit(b: u8) -> bool
+    ensures { λ r. ⌜ r ≡ isDigit b ⌝ }
+{
+    (b'0' <= b) & (b <= b'9')
+}
+
+fn is_capital(b: u8) -> bool
+    ensures { λ r. ⌜ r ≡ isCapital b ⌝ }
+{
+    (b'A' <= b) & (b <= b'Z')
+}
+
+fn is_name(b: u8) -> bool
+    ensures { λ r. ⌜ r ≡ isName b ⌝ }
+{
+    ((b'A' <= b) & (b <= b'Z'))
+        | ((b'a' <= b) & (b <= b'z'))
+        | ((b'0' <= b) & (b <= b'9'))
+        | (b == b'-')
+        | (b == b'.')
+}
+
+fn is_text(b: u8) -> bool
+    ensures { λ r. ⌜ r ≡ isText b ⌝ }
+{
+    (32 <= b) & (b <= 126)
+}
+
+// Whether a byte is of the class.
+pub fn in_class(c: Class, b: u8) -> bool
+    ensures { λ r. ⌜ r ≡ inClass c b ⌝ }
+{
+    match c {
+        Class::Is(x) => b == x,
+        Class::Not(x) => !(b == x),
+        Class::Digit => is_digit(b),
+        Class::Name => is_name(b),
+        Class::Text => is_text(b),
+        Class::NotText => !is_text(b),
+    }
+}
+
+// The place of the first byte of the class, or the length.
+pub fn first_in(s: &[u8], c: Class) -> usize
+    ensures { λ r. ⌜ FirstOf (inClass c) (now (s .entry)) r ⌝ }
+{
+    let mut i = 0;
+    while i < s.len() {
+        if in_class(c, s[i]) {
+            return i;
+        }
+        i += 1;
+    }
+    i
+}
+
+// The first place from `at` on that holds a byte of the class, or the length; `at` itself where it is past the end.
+pub fn first_from(s: &[u8], at: usize, c: Class) -> usize
+    ensures { λ r. ⌜ FirstFrom (inClass c) (now (s .entry)) at r ⌝ }
+{
+    if s.len() < at {
+        return at;
+    }
+    at + first_in(&s[at..], c)
+}
+
+// Whether every byte is of the class.
+pub fn all_in(s: &[u8], c: Class) -> bool
+    ensures { λ r. ⌜ r ≡ all (inClass c) (now (s .entry)) ⌝ }
+{
+    let mut i = 0;
+    while i < s.len() {
+        if in_class(c, s[i]) {
+            i += 1;
+        } else {
+            return false;
+        }
+    }
+    true
+}
+
+// Whether the case of ASCII letters tells two texts apart.
+pub enum Case {
+    Counts,
+    Ignored,
+}
+
+fn small_of(b: u8) -> u8
+    ensures { λ r. ⌜ r ≡ seen Case.Ignored b ⌝ }
+{
+    if is_capital(b) { b + 32 } else { b }
+}
+
+fn seen_as(case: Case, b: u8) -> u8
+    ensures { λ r. ⌜ r ≡ seen case b ⌝ }
+{
+    match case {
+        Case::Counts => b,
+        Case::Ignored => small_of(b),
+    }
+}
+
+fn is_pair_alike(case: Case, x: u8, y: u8) -> bool
+    ensures { λ r. ⌜ r ≡ eqb (seen case x) (seen case y) ⌝ }
+{
+    seen_as(case, x) == seen_as(case, y)
+}
+
+// Whether two texts are the same bytes, or the same but for the case of letters.
+pub fn are_alike(s: &[u8], t: &[u8], case: Case) -> bool
+    ensures { λ r. ⌜ r ≡ areAlike case (now (s .entry)) (now (t .entry)) ⌝ }
+{
+    if s.len() != t.len() {
+        return false;
+    }
+    let mut i = 0;
+    while i < s.len() {
+        if is_pair_alike(case, s[i], t[i]) {
+            i += 1;
+        } else {
+            return false;
+        }
+    }
+    true
+}
+
+// A part of a slice, from start up to, not including, end.
+pub struct Span {
+    pub start: usize,
+    pub end: usize,
+}
+
+// Where the text stands without the spaces at its start and its end.
+pub fn trimmed(s: &[u8]) -> Span
+    ensures { λ r. ⌜ Trimmed (now (s .entry)) r ⌝ }
+{
+    let a = first_in(s, Class::Not(b' '));
+    let mut e = s.len();
+    while a < e {
+        let last = e - 1;
+        if s[last] == b' ' {
+            e = last;
+        } else {
+            return Span { start: a, end: e };
+        }
+    }
+    Span { start: a, end: e }
+}
