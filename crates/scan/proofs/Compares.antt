@@ -6,18 +6,15 @@ use Prim.Native.Nat.{ℕ, suc, _+_, _≤_, _<_}
 use native.Mathlib.Omega.{arith}
 use lib.Dec.{eqb, leb}
 use lib.ListN.{length, getD, drop}
-use borrow.Author.Tests.{eqb-true, leb-true}
+use borrow.Author.Tests.{eq-eqb, eqb-true, leb-true}
 use Rattle.scan.specs.Classes.{isCapital}
 use Rattle.scan.specs.Compare.{alikeBy}
+use Rattle.scan.proofs.Bools.{never, and-both}
 use Rattle.scan.proofs.Loops.{turn, end}
-
-both : (a b : Bool) → a && b ≡ true → (a ≡ true) × (b ≡ true)
-both true b e = (refl, e)
-both false b e = let z : _≡_ {A = ℕ} 0 1 = cc in absurd (omega arith)
 
 -- the small form of a capital letter is a byte
 pub capital-small : (b : ℕ) → isCapital b ≡ true → b + 32 < 256
-capital-small b e = omega (arith, leb-true b 90 (both (leb 65 b) (leb b 90) e .1))
+capital-small b e = omega (arith, leb-true b 90 (and-both (leb 65 b) (leb b 90) e .1))
 
 module _ (f : ℕ → ℕ) where
   -- texts of different lengths are not alike
@@ -50,13 +47,18 @@ module _ (f : ℕ → ℕ) where
     pub matching-not : r ≡ false → false ≡ alikeBy f s t
     matching-not n = sym (step ∙ rw n) ∙ m .same
 
-  -- alike after f is the same list after f, and the other way round
+  -- every text is alike itself
+  pub alike-self : (s : List ℕ) → alikeBy f s s ≡ true
+  alike-self [] = refl
+  alike-self (x ∷ s) = rw (eq-eqb (f x) (f x) refl) (alike-self s)
+
+  -- texts that are alike are the same after f; with `alike-by` and `alike-self`, the other way round too
   pub alike-same : (s t : List ℕ) → alikeBy f s t ≡ true → map f s ≡ map f t
   alike-same [] [] e = refl
-  alike-same [] (y ∷ t) e = let z : _≡_ {A = ℕ} 0 1 = cc in absurd (omega arith)
-  alike-same (x ∷ s) [] e = let z : _≡_ {A = ℕ} 0 1 = cc in absurd (omega arith)
+  alike-same [] (y ∷ t) e = never e refl
+  alike-same (x ∷ s) [] e = never e refl
   alike-same (x ∷ s) (y ∷ t) e =
-      let b = both (eqb (f x) (f y)) (alikeBy f s t) e in
+      let b = and-both (eqb (f x) (f y)) (alikeBy f s t) e in
       ap₂ (λ z zs. z ∷ zs) (eqb-true (f x) (f y) (b .0)) (alike-same s t (b .1))
 
   -- only what f shows of a text counts

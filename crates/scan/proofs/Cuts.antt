@@ -10,6 +10,7 @@ use lib.ListN.{length, take, drop, length-drop}
 use lib.Seq.{drop-drop}
 use borrow.Author.Tests.{lt-ltb, le-ltb, ltb-true, ltb-false, le-leb, lt-leb, eq-eqb, eqb-true}
 use Rattle.scan.specs.Lists.{all, first, part}
+use Rattle.scan.proofs.Bools.{never}
 use Rattle.scan.specs.Cut.{is, push, cut, cutFrom, joined}
 
 -- the pieces after the separator at place k: none where the list ends there
@@ -79,5 +80,5 @@ cut-clean b (x ∷ xs) ys h = by (is b x) (cut-clean b xs ys) h
   where
     by : (t : Bool) → (all (λ z. not (is b z)) xs ≡ true → cut b (xs ++ (b ∷ ys)) ≡ xs ∷ cut b ys) → (not t && all (λ z. not (is b z)) xs) ≡ true
         → cond t ([] ∷ cut b (xs ++ (b ∷ ys))) (push x (cut b (xs ++ (b ∷ ys)))) ≡ (x ∷ xs) ∷ cut b ys
-    by true ih e = let z : _≡_ {A = ℕ} 0 1 = cc in absurd (omega arith)
+    by true ih e = never e refl
     by false ih e = ap (push x) (ih e)

@@ -1,3 +1,4 @@
+pub mod Bools
 pub mod Loops
 pub mod Parts
 pub mod Compares

@@ -1,0 +1,103 @@
+-- Numbers read digit by digit, for any base, count of digits and limit: every reading cites these laws. Assumes nothing.
+use mathlib.Core.Path.{_≡_, refl, sym, ap, _∙_}
+use mathlib.Core.Bool.{Bool, true, false, cond, _&&_, and-false}
+use mathlib.Core.List.{List, [], _∷_, map}
+use Prim.Native.Nat.{ℕ, suc, _+_, _*_, _-_, _^_, _≤_, _<_}
+use native.Mathlib.Nat.{le-refl, le-trans, mul-le-mul, mul-le-mul-left, mul-le-mul-right, suc-mul, mul-one, mul-assoc, pow-zero, pow-succ'}
+use native.Mathlib.Omega.{arith}
+use lib.Dec.{leb, ltb}
+use lib.ListN.{length, getD, drop}
+use borrow.Author.Tests.{leb-true, le-leb, lt-leb, ltb-true, lt-ltb, le-ltb, ne-eqb}
+use Rattle.scan.proofs.Bools.{and-both, by-test}
+use Rattle.scan.proofs.Loops.{turn, end}
+use Rattle.scan.specs.Classes.{isBetween}
+use Rattle.digits.specs.Positional.{valueFrom}
+use Rattle.digits.specs.Reading.{digitOf, areDigits, spelled, readIn, readHex8}
+use Rattle.digits.specs.declared.Read.{Read}
+use Rattle.digits.specs.declared.Read.the-variants.{Value, Nothing}
+
+pub between-low : (low high b : ℕ) → isBetween low high b ≡ true → low ≤ b
+between-low low high b e = leb-true low b (and-both (leb low b) (leb b high) e .0)
+
+-- a number of 32 bits and two digits of a byte fit 64 bits
+pub with-digit-fits : (v base d : ℕ) → v < 4294967296 → base < 256 → d < 256 → v * base + d < 18446744073709551616
+with-digit-fits v base d h k l = omega (arith, mul-le-mul {n₁ = v} {m₁ = base} {n₂ = 4294967295} {m₂ = 255} (omega arith) (omega arith))
+
+-- what is read of the rest after v
+abbrev rest : ℕ → ℕ → ℕ → List ℕ → Read
+rest base limit v xs =
+    cond (areDigits base xs && leb (valueFrom base v (map digitOf xs)) limit) (Value (valueFrom base v (map digitOf xs))) Nothing
+
+-- digits only make a number larger
+grows : (base v : ℕ) (ds : List ℕ) → 0 < base → v ≤ valueFrom base v ds
+grows base v [] h = le-refl v
+grows base v (d ∷ ds) h =
+    let l : v ≤ v * base + d = omega (arith, mul-le-mul-left v h) in
+    le-trans l (grows base (v * base + d) ds h)
+
+rest-over : (base limit v : ℕ) (xs : List ℕ) → 0 < base → limit < v → rest base limit v xs ≡ Nothing
+rest-over base limit v xs h k =
+    let g : v ≤ valueFrom base v (map digitOf xs) = grows base v (map digitOf xs) h in
+    simp (lt-leb (valueFrom base v (map digitOf xs)) limit (omega arith), and-false)
+
+-- and stay below the base's power
+below : (base v m : ℕ) (xs : List ℕ) → areDigits base xs ≡ true → v < m → valueFrom base v (map digitOf xs) < m * base ^ length xs
+below base v m [] e h = rw (pow-zero, mul-one) h
+below base v m (x ∷ xs) e h =
+    let b = and-both (ltb (digitOf x) base) (areDigits base xs) e in
+    let d : digitOf x < base = ltb-true (digitOf x) base (b .0) in
+    let w : v * base + digitOf x < m * base = omega (arith, suc-mul v base, mul-le-mul-right base h) in
+    rw (pow-succ', ← mul-assoc) (below base (v * base + digitOf x) (m * base) xs (b .1) w)
+
+-- eight hexadecimal digits say a number of 32 bits: the limit settles nothing
+pub hex-limit : (s : List ℕ) → length s ≡ 8 → readIn 16 8 4294967295 s ≡ readHex8 s
+unfolding readHex8
+hex-limit s e = rw e (by-test (λ t. cond (t && leb (spelled 16 s) 4294967295) (Value (spelled 16 s)) Nothing ≡ cond t (Value (spelled 16 s)) Nothing) (areDigits 16 s) fits none)
+  where
+    fits : areDigits 16 s ≡ true → cond (leb (spelled 16 s) 4294967295) (Value (spelled 16 s)) Nothing ≡ Value (spelled 16 s)
+    fits d = let b = below 16 0 1 s d (omega arith) in let k = rw e at b in rw (le-leb (spelled 16 s) 4294967295 (omega arith))
+
+    none : areDigits 16 s ≡ false → Nothing ≡ Nothing
+    none d = refl
+
+pub hex-length : (s : List ℕ) → (length s ≡ 8 → ⊥) → Nothing ≡ readHex8 s
+unfolding readHex8
+hex-length s n = rw (ne-eqb (length s) 8 n)
+
+module _ (base most limit : ℕ) where
+  pub read-empty : (s : List ℕ) → length s ≡ 0 → Nothing ≡ readIn base most limit s
+  read-empty s e = rw (lt-leb 1 (length s) (omega arith))
+
+  pub read-long : (s : List ℕ) → most < length s → Nothing ≡ readIn base most limit s
+  read-long s h = simp (lt-leb (length s) most h, and-false)
+
+  -- v was read before place i, and what is read of the rest after it is what is read of the whole
+  pub record Spelling (s : List ℕ) (i v : ℕ) : Type 0 where
+    pub inside : i ≤ length s
+    pub small : v ≤ limit
+    pub same : rest base limit v (drop i s) ≡ readIn base most limit s
+
+  pub spelling-start : (s : List ℕ) → (length s ≡ 0 → ⊥) → length s ≤ most → Spelling s 0 0
+  spelling-start s n h =
+      record {
+        inside = omega arith;
+        small = omega arith;
+        same = sym (rw (le-leb 1 (length s) (omega arith), le-leb (length s) most h));
+      }
+
+  pub spelling-end : {s : List ℕ} {i v : ℕ} → Spelling s i v → length s ≤ i → Value v ≡ readIn base most limit s
+  spelling-end {s} {i} {v} r h = sym (end (rest base limit v) s i h ∙ rw (le-leb v limit (r .small))) ∙ r .same
+
+  module _ {s : List ℕ} {i v d : ℕ} (r : Spelling s i v) (h : i < length s) (e : d ≡ digitOf (getD s i 0)) where
+    pub spelling-not : base ≤ d → Nothing ≡ readIn base most limit s
+    spelling-not k = sym (turn (rest base limit v) s i 0 h ∙ rw (← e, le-ltb d base k)) ∙ r .same
+
+    module _ {w : ℕ} (k : d < base) (q : w ≡ v * base + d) where
+      step : rest base limit v (drop i s) ≡ rest base limit w (drop (i + 1) s)
+      step = turn (rest base limit v) s i 0 h ∙ rw (← e, lt-ltb d base k, q)
+
+      pub spelling-over : limit < w → Nothing ≡ readIn base most limit s
+      spelling-over l = sym (step ∙ rest-over base limit w (drop (i + 1) s) (omega arith) l) ∙ r .same
+
+      pub spelling-more : w ≤ limit → Spelling s (i + 1) w
+      spelling-more l = record { inside = omega arith; small = l; same = sym step ∙ r .same }

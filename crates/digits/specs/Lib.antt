@@ -1,0 +1,4 @@
+pub mod Positional
+pub mod Reading
+pub mod Writing
+pub mod Wrote

@@ -1,0 +1,23 @@
+-- Numbers by their digits in a base, as values, the highest first. Decimal and hexadecimal text, the octets of an address and the
+-- journal's big-endian bytes are all of this form. Assumes nothing.
+use Prim.Native.Nat.{ℕ, zero, suc, _+_, _*_, _/_, _%_, _<_}
+use mathlib.Core.List.{List, [], _∷_, _++_}
+use lib.ListN.{getD}
+
+-- the last k digits of v
+abbrev pub digitsIn : ℕ → ℕ → ℕ → List ℕ
+digitsIn base zero v = []
+digitsIn base (suc k) v = digitsIn base k (v / base) ++ (v % base ∷ [])
+
+-- the number that the digits say after v
+abbrev pub valueFrom : ℕ → ℕ → List ℕ → ℕ
+valueFrom base v [] = v
+valueFrom base v (d ∷ ds) = valueFrom base (v * base + d) ds
+
+-- the number that the digits say
+abbrev pub valueIn : ℕ → List ℕ → ℕ
+valueIn base ds = valueFrom base 0 ds
+
+-- each is a digit of the base
+abbrev pub Below : ℕ → List ℕ → Type 0
+Below base ds = (i : ℕ) → getD ds i 0 < base

@@ -1,0 +1,43 @@
+-- Numbers read from text. What is read is the whole text, so the digits stand where it stands. Assumes nothing.
+use Prim.Native.Nat.{ℕ, _-_}
+use mathlib.Core.Bool.{Bool, cond, _&&_}
+use mathlib.Core.List.{List, map}
+use lib.Dec.{leb, ltb, eqb}
+use lib.ListN.{length, getD}
+use Rattle.scan.specs.Lists.{all}
+use Rattle.scan.specs.Classes.{isBetween, isDigit}
+use Rattle.digits.specs.Positional.{valueIn}
+use Rattle.digits.specs.declared.Read.{Read}
+use Rattle.digits.specs.declared.Read.the-variants.{Value, Nothing}
+use Rattle.digits.specs.declared.Zeros.{Zeros}
+use Rattle.digits.specs.declared.Zeros.the-variants.{Allowed, Refused}
+
+-- what a byte counts as a digit: 0 to 9, and A to F of either case are 10 to 15; any other byte counts 255
+abbrev pub digitOf : ℕ → ℕ
+digitOf b = cond (isDigit b) (b - 48) (cond (isBetween 65 70 b) (b - 55) (cond (isBetween 97 102 b) (b - 87) 255))
+
+-- every byte is a digit of the base
+abbrev pub areDigits : ℕ → List ℕ → Bool
+areDigits base xs = all (λ b. ltb (digitOf b) base) xs
+
+-- the number that they say
+abbrev pub spelled : ℕ → List ℕ → ℕ
+spelled base xs = valueIn base (map digitOf xs)
+
+-- digits of the base alone, at least one and at most `most`, that say at most `limit`
+abbrev pub readIn : ℕ → ℕ → ℕ → List ℕ → Read
+readIn base most limit xs =
+    cond (leb 1 (length xs) && (leb (length xs) most && (areDigits base xs && leb (spelled base xs) limit))) (Value (spelled base xs)) Nothing
+
+-- a zero before another digit
+abbrev pub hasLeadingZero : List ℕ → Bool
+hasLeadingZero xs = ltb 1 (length xs) && eqb (getD xs 0 0) 48
+
+-- "1 to 10 digits up to 4294967295", "1 to 5 digits, leading zeros allowed", "decimal without leading zeros"
+unfoldable pub readNumber : Zeros → ℕ → ℕ → List ℕ → Read
+readNumber Allowed most limit xs = readIn 10 most limit xs
+readNumber Refused most limit xs = cond (hasLeadingZero xs) Nothing (readIn 10 most limit xs)
+
+-- "8 hex digits of either case"
+unfoldable pub readHex8 : List ℕ → Read
+readHex8 xs = cond (eqb (length xs) 8 && areDigits 16 xs) (Value (spelled 16 xs)) Nothing

@@ -1,0 +1,104 @@
+// Numbers and text: decimal and hexadecimal read within limits; decimal, hexadecimal and dotted addresses written; text put into a lent
+// buffer. Every function has an answer for all bytes, places and numbers. Reading looks at each byte at most once and stops at the
+// first that settles the answer; writing goes straight into the buffer, each byte once.
+ghost use mathlib.Core.Path.{_≡_};
+ghost use Prim.Native.Nat.{_+_, _*_, _-_, _≤_, _<_, min};
+ghost use lib.ListN.{length, set};
+ghost use Rattle.digits.specs.Reading.{digitOf, readIn, hasLeadingZero, readNumber, readHex8};
+ghost use Rattle.digits.specs.Writing.{shown, numeral, width, decimal, hex8, dotted};
+ghost use Rattle.digits.specs.Wrote.{Wrote};
+
+// What was read: a number, or something that is none.
+pub enum Read {
+    Value(u32),
+    Nothing,
+}
+
+// Whether zeros may stand before the first digit that counts.
+pub enum Zeros {
+    Allowed,
+    Refused,
+}
+
+// What a byte counts as a digit of a base up to 16; 255 where it is none.
+fn digit_of(b: u8) -> u8
+    ensures { λ r. ⌜ r ≡ digitOf b ⌝ }
+{
+    if (b'0' <= b) & (b <= b'9') {
+        return b - b'0';
+    }
+    if (b'A' <= b) & (b <= b'F') {
+        return b - (b'A' - 10);
+    }
+    if (b'a' <= b) & (b <= b'f') {
+        return b - (b'a' - 10);
+    }
+    255
+}
+
+// The number v with one digit more.
+fn with_digit(v: u32, base: u8, d: u8) -> u64
+    ensures { λ r. ⌜ r ≡ v * base + d ⌝ }
+{
+    (v as u64) * (base as u64) + (d as u64)
+}
+
+// One to `most` digits of the base that say at most `limit`.
+fn number_in(base: u8, s: &[u8], most: usize, limit: u32) -> Read
+    ensures { λ r. ⌜ r ≡ readIn base most limit (now (s .entry)) ⌝ }
+{
+    if s.len() == 0 {
+        return Read::Nothing;
+    }
+    if most < s.len() {
+        return Read::Nothing;
+    }
+    let mut v: u32 = 0;
+    let mut i = 0;
+    while i < s.len() {
+        let d = digit_of(s[i]);
+        if base <= d {
+            return Read::Nothing;
+        }
+        let next = with_digit(v, base, d);
+        if (limit as u64) < next {
+            return Read::Nothing;
+        }
+        v = next as u32;
+        i += 1;
+    }
+    Read::Value(v)
+}
+
+fn has_leading_zero(s: &[u8]) -> bool
+    ensures { λ r. ⌜ r ≡ hasLeadingZero (now (s .entry)) ⌝ }
+{
+    if 1 < s.len() { s[0] == b'0' } else { false }
+}
+
+// The decimal number that the whole text is, of one to `most` digits and at most `limit`.
+pub fn number(s: &[u8], zeros: Zeros, most: usize, limit: u32) -> Read
+    ensures { λ r. ⌜ r ≡ readNumber zeros most limit (now (s .entry)) ⌝ }
+{
+    match zeros {
+        Zeros::Allowed => number_in(10, s, most, limit),
+        Zeros::Refused => {
+            if has_leading_zero(s) {
+                Read::Nothing
+            } else {
+                number_in(10, s, most, limit)
+            }
+        }
+    }
+}
+
+// The number that the whole text is, of eight hexadecimal digits of either case.
+pub fn hex_number(s: &[u8]) -> Read
+    ensures { λ r. ⌜ r ≡ readHex8 (now (s .entry)) ⌝ }
+{
+    if s.len() == 8 {
+        number_in(16, s, 8, 4294967295)
+    } else {
+        Read::Nothing
+    }
+}
