@@ -1,1 +1,4 @@
 pub mod Spelling
+pub mod Writes
+pub mod Positions
+pub mod Numerals

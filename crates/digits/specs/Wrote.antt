@@ -9,7 +9,7 @@ unfoldable pub written : List ℕ → ℕ → List ℕ → List ℕ
 written b at t = take at b ++ (take (length b - at) t ++ drop (at + length t) b)
 
 -- the place after the text; where the text does not fit, one past the buffer's length, at which nothing fits any more
-unfoldable pub placeAfter : List ℕ → ℕ → List ℕ → ℕ
+abbrev pub placeAfter : List ℕ → ℕ → List ℕ → ℕ
 placeAfter b at t = min (at + length t) (length b + 1)
 
 -- d is the buffer afterwards, and next the place after the text
