@@ -3,7 +3,7 @@ use mathlib.Core.Path.{_≡_, refl, sym, ap, ap₂, _∙_}
 use mathlib.Core.List.{List, [], _∷_, _++_}
 use Prim.Native.Nat.{ℕ, zero, suc, _+_, _*_, _-_, _/_, _%_, _^_, _≤_, _<_}
 use native.Mathlib.Decide.{decLt}
-use native.Mathlib.Nat.{pow-suc, pow-zero, div-lt-iff-lt-mul, div-add-mod', mul-add-div-right, mul-add-mod-self-right, div-eq-of-lt, mod-eq-of-lt, mod-lt, add-zero}
+use native.Mathlib.Nat.{pow-suc, pow-succ', pow-zero, mul-one, one-mul, mul-assoc, suc-mul, mul-le-mul-right, div-lt-iff-lt-mul, div-add-mod', mul-add-div-right, mul-add-mod-self-right, div-eq-of-lt, mod-eq-of-lt, mod-lt, add-zero}
 use native.Mathlib.Numerals.{add-one}
 use native.Mathlib.Omega.{arith}
 use lib.ListN.{length, take, drop, getD, length-append, List·getD-append, List·getD-eq-default}
@@ -29,6 +29,16 @@ digits-below base (suc k) v h = below-last base (digitsIn base k (v / base)) (v 
 value-last : (base v : ℕ) (ds : List ℕ) (d : ℕ) → valueFrom base v (ds ++ (d ∷ [])) ≡ valueFrom base v ds * base + d
 value-last base v [] d = refl
 value-last base v (x ∷ ds) d = value-last base (v * base + x) ds d
+
+-- digits after a number below m say a number below m times the base's power
+value-under : (base v m : ℕ) (ds : List ℕ) → Below base ds → v < m → valueFrom base v ds < m * base ^ length ds
+value-under base v m [] b h = rw (pow-zero, mul-one) h
+value-under base v m (d ∷ ds) b h =
+    let w : v * base + d < m * base = omega (arith, b 0, suc-mul v base, mul-le-mul-right base h) in
+    rw (pow-succ', ← mul-assoc) (value-under base (v * base + d) (m * base) ds (λ i. b (suc i)) w)
+
+pub value-below : (base : ℕ) (ds : List ℕ) → Below base ds → valueIn base ds < base ^ length ds
+value-below base ds b = rw one-mul at (value-under base 0 1 ds b (omega arith))
 
 -- THE DIGITS OF A NUMBER SAY THE NUMBER
 pub value-digits : (base k v : ℕ) → 0 < base → v < base ^ k → valueIn base (digitsIn base k v) ≡ v

@@ -2,16 +2,17 @@
 use mathlib.Core.Path.{_≡_, refl, sym, ap, _∙_}
 use mathlib.Core.Bool.{Bool, true, false, cond, _&&_, and-false}
 use mathlib.Core.List.{List, [], _∷_, map}
-use Prim.Native.Nat.{ℕ, suc, _+_, _*_, _-_, _^_, _≤_, _<_}
-use native.Mathlib.Nat.{le-refl, le-trans, mul-le-mul, mul-le-mul-left, mul-le-mul-right, suc-mul, mul-one, mul-assoc, pow-zero, pow-succ'}
+use Prim.Native.Nat.{ℕ, zero, suc, _+_, _*_, _-_, _^_, _≤_, _<_}
+use native.Mathlib.Nat.{le-refl, le-trans, mul-le-mul, mul-le-mul-left}
 use native.Mathlib.Omega.{arith}
 use lib.Dec.{leb, ltb}
-use lib.ListN.{length, getD, drop}
+use lib.ListN.{length, getD, drop, length-map}
 use borrow.Author.Tests.{leb-true, le-leb, lt-leb, ltb-true, lt-ltb, le-ltb, ne-eqb}
 use Rattle.scan.proofs.Bools.{and-both, by-test}
 use Rattle.scan.proofs.Loops.{turn, end}
 use Rattle.scan.specs.Classes.{isBetween}
-use Rattle.digits.specs.Positional.{valueFrom}
+use Rattle.digits.specs.Positional.{valueFrom, Below}
+use Rattle.digits.proofs.Positions.{value-below}
 use Rattle.digits.specs.Reading.{digitOf, areDigits, spelled, readIn, readHex8}
 use Rattle.digits.specs.declared.Read.{Read}
 use Rattle.digits.specs.declared.Read.the-variants.{Value, Nothing}
@@ -40,14 +41,10 @@ rest-over base limit v xs h k =
     let g : v ≤ valueFrom base v (map digitOf xs) = grows base v (map digitOf xs) h in
     simp (lt-leb (valueFrom base v (map digitOf xs)) limit (omega arith), and-false)
 
--- and stay below the base's power
-below : (base v m : ℕ) (xs : List ℕ) → areDigits base xs ≡ true → v < m → valueFrom base v (map digitOf xs) < m * base ^ length xs
-below base v m [] e h = rw (pow-zero, mul-one) h
-below base v m (x ∷ xs) e h =
-    let b = and-both (ltb (digitOf x) base) (areDigits base xs) e in
-    let d : digitOf x < base = ltb-true (digitOf x) base (b .0) in
-    let w : v * base + digitOf x < m * base = omega (arith, suc-mul v base, mul-le-mul-right base h) in
-    rw (pow-succ', ← mul-assoc) (below base (v * base + digitOf x) (m * base) xs (b .1) w)
+digits-below : (base : ℕ) (xs : List ℕ) → 0 < base → areDigits base xs ≡ true → Below base (map digitOf xs)
+digits-below base [] h e i = h
+digits-below base (x ∷ xs) h e zero = ltb-true (digitOf x) base (and-both (ltb (digitOf x) base) (areDigits base xs) e .0)
+digits-below base (x ∷ xs) h e (suc i) = digits-below base xs h (and-both (ltb (digitOf x) base) (areDigits base xs) e .1) i
 
 -- eight hexadecimal digits say a number of 32 bits: the limit settles nothing
 pub hex-limit : (s : List ℕ) → length s ≡ 8 → readIn 16 8 4294967295 s ≡ readHex8 s
@@ -55,7 +52,7 @@ unfolding readHex8
 hex-limit s e = rw e (by-test (λ t. cond (t && leb (spelled 16 s) 4294967295) (Value (spelled 16 s)) Nothing ≡ cond t (Value (spelled 16 s)) Nothing) (areDigits 16 s) fits none)
   where
     fits : areDigits 16 s ≡ true → cond (leb (spelled 16 s) 4294967295) (Value (spelled 16 s)) Nothing ≡ Value (spelled 16 s)
-    fits d = let b = below 16 0 1 s d (omega arith) in let k = rw e at b in rw (le-leb (spelled 16 s) 4294967295 (omega arith))
+    fits d = let k = rw (length-map s digitOf, e) at (value-below 16 (map digitOf s) (digits-below 16 s (omega arith) d)) in rw (le-leb (spelled 16 s) 4294967295 (omega arith))
 
     none : areDigits 16 s ≡ false → Nothing ≡ Nothing
     none d = refl
