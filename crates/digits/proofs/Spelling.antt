@@ -7,18 +7,14 @@ use native.Mathlib.Nat.{le-refl, le-trans, mul-le-mul, mul-le-mul-left}
 use native.Mathlib.Omega.{arith}
 use lib.Dec.{leb, ltb}
 use lib.ListN.{length, getD, drop, length-map}
-use borrow.Author.Tests.{leb-true, le-leb, lt-leb, ltb-true, lt-ltb, le-ltb, ne-eqb}
+use borrow.Author.Tests.{le-leb, lt-leb, ltb-true, lt-ltb, le-ltb, ne-eqb}
 use Rattle.scan.proofs.Bools.{and-both, by-test}
 use Rattle.scan.proofs.Loops.{turn, end}
-use Rattle.scan.specs.Classes.{isBetween}
 use Rattle.digits.specs.Positional.{valueFrom, Below}
 use Rattle.digits.proofs.Positions.{value-below}
 use Rattle.digits.specs.Reading.{digitOf, areDigits, spelled, readIn, readHex8}
 use Rattle.digits.specs.declared.Read.{Read}
 use Rattle.digits.specs.declared.Read.the-variants.{Value, Nothing}
-
-pub between-low : (low high b : ℕ) → isBetween low high b ≡ true → low ≤ b
-between-low low high b e = leb-true low b (and-both (leb low b) (leb b high) e .0)
 
 -- a number of 32 bits and two digits of a byte fit 64 bits
 pub with-digit-fits : (v base d : ℕ) → v < 4294967296 → base < 256 → d < 256 → v * base + d < 18446744073709551616

@@ -69,24 +69,24 @@ pub fn in_class(c: Class, b: u8) -> bool
 pub fn first_in(s: &[u8], c: Class) -> usize
     ensures { λ r. ⌜ FirstOf (inClass c) (now (s .entry)) r ⌝ }
 {
-    let mut i = 0;
-    while i < s.len() {
-        if in_class(c, s[i]) {
-            return i;
+    let mut at = 0;
+    while at < s.len() {
+        if in_class(c, s[at]) {
+            return at;
         }
-        i += 1;
+        at += 1;
     }
-    i
+    at
 }
 
-// The first place from `at` on that holds a byte of the class, or the length; `at` itself where it is past the end.
-pub fn first_from(s: &[u8], at: usize, c: Class) -> usize
-    ensures { λ r. ⌜ FirstFrom (inClass c) (now (s .entry)) at r ⌝ }
+// The first place from `from` on that holds a byte of the class, or the length; `from` itself where it is past the end.
+pub fn first_from(s: &[u8], from: usize, c: Class) -> usize
+    ensures { λ r. ⌜ FirstFrom (inClass c) (now (s .entry)) from r ⌝ }
 {
-    if s.len() < at {
-        return at;
+    if s.len() < from {
+        return from;
     }
-    at + first_in(&s[at..], c)
+    from + first_in(&s[from..], c)
 }
 
 // Whether every byte is of the class.
@@ -138,10 +138,10 @@ pub fn are_alike(s: &[u8], t: &[u8], case: Case) -> bool
     if s.len() != t.len() {
         return false;
     }
-    let mut i = 0;
-    while i < s.len() {
-        if is_pair_alike(case, s[i], t[i]) {
-            i += 1;
+    let mut at = 0;
+    while at < s.len() {
+        if is_pair_alike(case, s[at], t[at]) {
+            at += 1;
         } else {
             return false;
         }

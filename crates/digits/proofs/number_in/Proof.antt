@@ -17,7 +17,7 @@ loop-again c =
     let l = c .before .before .before .before .before .before in
     let a = l .before .before .before .before .args in
     spelling-more (a .base) (a .most) (a .limit) (l .loop .inv) (c .before .before .before .before .before .loop-test .taken) (c .before .before .before .digit-of .ensures)
-    (c .before .before .if3 .left) (c .before .with-digit .ensures) (c .if4 .left)
+    (search needs) (c .before .with-digit .ensures) (search needs)
 
 pub number-in-spec : {M : Type 1} → statement M
 number-in-spec =

@@ -1,4 +1,4 @@
--- `scan::are_alike` meets its contract. Invariant: the texts are as long as each other, and alike before i. Assumes nothing.
+-- `scan::are_alike` meets its contract. Invariant: the texts are as long as each other, and alike before the place. Assumes nothing.
 use Prim.Native.Nat.{_-_}
 use lib.ListN.{length}
 use borrow.Author.Needs.{needs}
@@ -8,10 +8,10 @@ use Rattle.scan.proofs.are_alike.Statement.{statement}
 use Rattle.scan.proofs.are_alike.Tie as tie
 
 abbrev Inv-loop : tie.InvT-loop
-Inv-loop s t case i₀ i = Matching (seen case) s t i
+Inv-loop s t case at₀ at = Matching (seen case) s t at
 
 abbrev μ-loop : tie.MeasureT-loop
-μ-loop s t case i₀ i = length s - i
+μ-loop s t case at₀ at = length s - at
 
 pub are-alike-spec : {M : Type 1} → statement M
 are-alike-spec =

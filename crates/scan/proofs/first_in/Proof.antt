@@ -1,4 +1,4 @@
--- `scan::first_in` meets its contract. Invariant: no byte of the class stands before i. Assumes nothing.
+-- `scan::first_in` meets its contract. Invariant: no byte of the class stands before the place. Assumes nothing.
 use Prim.Native.Nat.{_-_}
 use lib.ListN.{length}
 use borrow.Author.Needs.{needs}
@@ -8,10 +8,10 @@ use Rattle.scan.proofs.first_in.Statement.{statement}
 use Rattle.scan.proofs.first_in.Tie as tie
 
 abbrev Inv-loop : tie.InvT-loop
-Inv-loop s c i₀ i = Seeking (inClass c) s i
+Inv-loop s c at₀ at = Seeking (inClass c) s at
 
 abbrev μ-loop : tie.MeasureT-loop
-μ-loop s c i₀ i = length s - i
+μ-loop s c at₀ at = length s - at
 
 pub first-in-spec : {M : Type 1} → statement M
 first-in-spec =
