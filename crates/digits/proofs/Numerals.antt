@@ -1,17 +1,16 @@
 -- Numbers as text: how many digits they take, the loops that write them, and that what is written is read back as itself, for every
 -- base and every width. Assumes nothing.
 use mathlib.Core.Path.{_≡_, refl, sym, ap, ap₂, _∙_}
-use mathlib.Core.Bool.{Bool, true, false, cond, _&&_, and-false}
+use mathlib.Core.Bool.{Bool, true, false, _&&_, and-false}
 use mathlib.Core.List.{List, [], _∷_, _++_, map}
-use Prim.Native.Nat.{ℕ, zero, suc, _+_, _*_, _-_, _/_, _%_, _^_, _≤_, _<_, min}
+use Prim.Native.Nat.{ℕ, zero, suc, _+_, _-_, _/_, _%_, _^_, _≤_, _<_, min}
 use native.Mathlib.Decide.{decLt}
-use native.Mathlib.Nat.{pow-suc, pow-zero, div-lt-iff-lt-mul, mod-lt, mod-eq-of-lt, pow-le-pow-right}
-use native.Mathlib.Numerals.{add-one, sub-one}
+use native.Mathlib.Nat.{pow-suc, div-lt-iff-lt-mul, mod-lt, mod-eq-of-lt, pow-le-pow-right}
 use native.Mathlib.Omega.{arith}
-use lib.Dec.{leb, ltb, eqb, lit<}
+use lib.Dec.{ltb}
 use lib.ListN.{length, getD, set, length-append, length-map, length-set, List·getD-append}
 use lib.Seq.{sets}
-use borrow.Author.Tests.{le-leb, lt-leb, lt-ltb, le-ltb, ne-eqb, eq-eqb}
+use borrow.Author.Tests.{le-leb, lt-leb, lt-ltb, le-ltb, ne-eqb}
 use Rattle.scan.proofs.Bools.{by-cases}
 use Rattle.scan.specs.Text.{text, _&_}
 use Rattle.scan.specs.Cut.{joined}
@@ -21,7 +20,7 @@ use Rattle.digits.specs.Writing.{shown, numeral, widthIn, width, decimal
 use Rattle.digits.specs.Wrote.{written, Wrote}
 use Rattle.digits.specs.declared.Zeros.{Zeros}
 use Rattle.digits.specs.declared.Zeros.the-variants.{Allowed, Refused}
-use Rattle.digits.specs.declared.Read.the-variants.{Value, Nothing}
+use Rattle.digits.specs.declared.Read.the-variants.{Value}
 use Rattle.digits.proofs.Positions.{digits-length, value-digits, octets}
 use Rattle.digits.proofs.Spelling.{hex-limit}
 use Rattle.digits.proofs.Writes.{written-sets, sets-last}

@@ -1,13 +1,12 @@
 -- A number and its digits, for every base and every width: each gives the other back. Assumes nothing.
-use mathlib.Core.Path.{_≡_, refl, sym, ap, ap₂, _∙_}
+use mathlib.Core.Path.{_≡_, refl, sym, ap, _∙_}
 use mathlib.Core.List.{List, [], _∷_, _++_}
-use Prim.Native.Nat.{ℕ, zero, suc, _+_, _*_, _-_, _/_, _%_, _^_, _≤_, _<_}
+use Prim.Native.Nat.{ℕ, zero, suc, _+_, _*_, _-_, _/_, _%_, _^_, _<_}
 use native.Mathlib.Decide.{decLt}
 use native.Mathlib.Nat.{pow-suc, pow-succ', pow-zero, mul-one, one-mul, mul-assoc, suc-mul, mul-le-mul-right, div-lt-iff-lt-mul, div-add-mod', mul-add-div-right, mul-add-mod-self-right, div-eq-of-lt, mod-eq-of-lt, mod-lt, add-zero}
-use native.Mathlib.Numerals.{add-one}
 use native.Mathlib.Omega.{arith}
-use lib.ListN.{length, take, drop, getD, length-append, List·getD-append, List·getD-eq-default}
-use lib.Seq.{take-suc, take-length, getD-take, getD-append-add, length-take-le}
+use lib.ListN.{length, take, getD, length-append, List·getD-eq-default}
+use lib.Seq.{take-suc, take-length, getD-take, length-take-le}
 use Rattle.scan.proofs.Bools.{by-cases}
 use Rattle.digits.specs.Positional.{digitsIn, valueFrom, valueIn, Below}
 

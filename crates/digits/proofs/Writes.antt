@@ -1,13 +1,12 @@
 -- Text put into a buffer: the loops that store it, and that two puts in a row are one put of the joined text. Assumes nothing.
 use mathlib.Core.Path.{_≡_, refl, sym, ap, _∙_}
 use mathlib.Core.List.{List, [], _∷_, _++_, append-assoc, append-nil}
-use Prim.Native.Nat.{ℕ, zero, suc, _+_, _-_, _≤_, _<_, min}
+use Prim.Native.Nat.{ℕ, suc, _+_, _-_, _≤_, _<_, min}
 use native.Mathlib.Decide.{decLt}
-use native.Mathlib.Nat.{add-zero, add-suc, suc-add, min-eq-left, min-eq-right}
-use native.Mathlib.Numerals.{add-one}
+use native.Mathlib.Nat.{add-zero, add-suc, suc-add}
 use native.Mathlib.Omega.{arith}
 use lib.ListN.{length, take, drop, getD, set, length-append, length-set, take-append-drop, drop-of-length-le}
-use lib.Seq.{sets, length-sets, take-all, take-nil, take-suc-set, drop-set-lt, set-out, set-comm, drop-cons}
+use lib.Seq.{sets, length-sets, take-all, take-nil, take-suc-set, drop-set-lt, set-out, set-comm}
 use Rattle.scan.proofs.Bools.{by-cases}
 use Rattle.scan.proofs.Loops.{turn, end}
 use Rattle.digits.specs.Wrote.{written, Wrote}

@@ -3,7 +3,7 @@
 // first that settles the answer; writing goes straight into the buffer, each byte once.
 ghost use mathlib.Core.Path.{_≡_};
 ghost use Prim.Native.Nat.{_+_, _*_, _-_, _≤_, _<_, min};
-ghost use lib.ListN.{length, set};
+ghost use lib.ListN.{set};
 ghost use Rattle.digits.specs.Reading.{digitOf, readIn, hasLeadingZero, readNumber, readHex8};
 ghost use Rattle.digits.specs.Writing.{shown, numeral, width, decimal, hex8, dotted};
 ghost use Rattle.digits.specs.Wrote.{Wrote};

@@ -1,6 +1,5 @@
 -- `digits::hex_number` meets its contract. Assumes nothing.
 use mathlib.Core.Path.{_∙_}
-use denote.Ref.{now}
 use borrow.Author.Needs.{needs}
 use Rattle.digits.proofs.Spelling.{hex-limit, hex-length}
 use Rattle.digits.proofs.hex_number.Statement.{statement}
