@@ -1,6 +1,6 @@
 -- Numbers read from text. What is read is the whole text, so the digits stand where it stands. Assumes nothing.
 use Prim.Native.Nat.{ℕ, _-_}
-use mathlib.Core.Bool.{Bool, cond, _&&_}
+use mathlib.Core.Bool.{Bool, true, false, cond, _&&_}
 use mathlib.Core.List.{List, map}
 use lib.Dec.{leb, ltb, eqb}
 use lib.ListN.{length, getD}
@@ -37,6 +37,16 @@ hasLeadingZero xs = ltb 1 (length xs) && eqb (getD xs 0 0) 48
 unfoldable pub readNumber : Zeros → ℕ → ℕ → List ℕ → Read
 readNumber Allowed most limit xs = readIn 10 most limit xs
 readNumber Refused most limit xs = cond (hasLeadingZero xs) Nothing (readIn 10 most limit xs)
+
+-- what was read, where it is no less than `least`: "1 to 65535", "1000 to 45000"
+abbrev pub atLeast : ℕ → Read → Read
+atLeast least (Value v) = cond (leb least v) (Value v) Nothing
+atLeast least Nothing = Nothing
+
+-- whether a number was read
+abbrev pub isValue : Read → Bool
+isValue (Value v) = true
+isValue Nothing = false
 
 -- "8 hex digits of either case"
 unfoldable pub readHex8 : List ℕ → Read

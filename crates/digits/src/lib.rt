@@ -4,7 +4,7 @@
 ghost use mathlib.Core.Path.{_≡_};
 ghost use Prim.Native.Nat.{_+_, _*_, _-_, _≤_, _<_, min};
 ghost use lib.ListN.{set};
-ghost use Rattle.digits.specs.Reading.{digitOf, readIn, hasLeadingZero, readNumber, readHex8};
+ghost use Rattle.digits.specs.Reading.{digitOf, readIn, hasLeadingZero, readNumber, atLeast, isValue, readHex8};
 ghost use Rattle.digits.specs.Writing.{shown, numeral, width, decimal, hex8, dotted};
 ghost use Rattle.digits.specs.Wrote.{Wrote};
 
@@ -89,6 +89,32 @@ pub fn number(s: &[u8], zeros: Zeros, most: usize, limit: u32) -> Read
                 number_in(10, s, most, limit)
             }
         }
+    }
+}
+
+// What was read, where it is no less than `least`.
+pub fn at_least(least: u32, read: Read) -> Read
+    ensures { λ r. ⌜ r ≡ atLeast least read ⌝ }
+{
+    match read {
+        Read::Value(v) => {
+            if least <= v {
+                Read::Value(v)
+            } else {
+                Read::Nothing
+            }
+        }
+        Read::Nothing => Read::Nothing,
+    }
+}
+
+// Whether a number was read.
+pub fn is_value(read: Read) -> bool
+    ensures { λ r. ⌜ r ≡ isValue read ⌝ }
+{
+    match read {
+        Read::Value(_) => true,
+        Read::Nothing => false,
     }
 }
 

@@ -2,13 +2,13 @@
 use mathlib.Core.Path.{_≡_, refl, ap, ap₂, _∙_, sym}
 use mathlib.Core.Bool.{Bool, true, false, not, cond, _&&_}
 use mathlib.Core.List.{List, [], _∷_, _++_}
-use Prim.Native.Nat.{ℕ, suc, _+_, _-_, _≤_, _<_}
+use Prim.Native.Nat.{ℕ, suc, _+_, _-_, _≤_, _<_, max}
 use native.Mathlib.Omega.{arith}
 use lib.Dec.{ltb, leb·zero, leb·suc-suc}
 use lib.ListN.{length, take, drop, length-drop}
 use lib.Seq.{drop-drop}
 use borrow.Author.Tests.{lt-ltb, ltb-true, ltb-false, le-leb, lt-leb, eq-eqb, eqb-true}
-use Rattle.scan.specs.Lists.{all, first, part}
+use Rattle.scan.specs.Lists.{all, first, part, FirstFrom}
 use Rattle.scan.proofs.Bools.{never}
 use Rattle.scan.specs.Cut.{is, push, cut, cutFrom, joined}
 
@@ -52,6 +52,34 @@ cut-turn b p s {e} h q =
 
 pub cut-end : (b p : ℕ) (s : List ℕ) → length s < p → cutFrom b p s ≡ []
 cut-end b p s h = rw (lt-leb p (length s) h)
+
+-- the search for a piece that passes: n pieces before place p did not
+pub record Among (q : List ℕ → Bool) (b : ℕ) (s : List ℕ) (p n : ℕ) : Type 0 where
+  pub inside : p ≤ length s + 1
+  pub fewer : n ≤ p
+  pub same : n + first q (cutFrom b p s) ≡ first q (cut b s)
+
+pub among-start : (q : List ℕ → Bool) (b : ℕ) (s : List ℕ) → Among q b s 0 0
+among-start q b s = record { inside = omega arith; fewer = omega arith; same = rw (← cut-start b s) (omega arith) }
+
+pub among-end : {q : List ℕ → Bool} {b : ℕ} {s : List ℕ} {p n : ℕ} → Among q b s p n → length s < p → n ≡ first q (cut b s)
+among-end {q} {b} {s} {p} {n} a h =
+    let z : first q (cutFrom b p s) ≡ 0 = ap (first q) (cut-end b p s h) in
+    omega (arith, a .same)
+
+module _ {q : List ℕ → Bool} {b : ℕ} {s : List ℕ} {p n e : ℕ} {t : Bool} (a : Among q b s p n) (h : p ≤ length s) (f : FirstFrom (is b) s p e) (v : t ≡ q (part p e s)) where
+  pub among-hit : t ≡ true → n ≡ first q (cut b s)
+  among-hit y =
+      let z : first q (cutFrom b p s) ≡ 0 = ap (first q) (cut-turn b p s h (f .is)) ∙ rw (sym v ∙ y) in
+      omega (arith, a .same)
+
+  pub among-more : t ≡ false → Among q b s (e + 1) (n + 1)
+  among-more d =
+      let z : first q (cutFrom b p s) ≡ suc (first q (cutFrom b (e + 1) s)) = ap (first q) (cut-turn b p s h (f .is)) ∙ rw (sym v ∙ d) in
+      let i : n ≤ p = a .fewer in
+      let j : p ≤ e = f .from in
+      let w : e ≤ max p (length s) = f .within in
+      record { inside = omega arith; fewer = omega arith; same = omega arith ∙ a .same }
 
 -- the pieces joined again are the text
 joined-push : (b x : ℕ) (ls : List (List ℕ)) → joined b (push x ls) ≡ x ∷ joined b ls

@@ -69,7 +69,7 @@ module _ {A : Type 0} (p : A → Bool) (l : List A) (at : ℕ) where
   pub first-past : length l < at → FirstFrom p l at at
   first-past h =
       let z = end (first p) l at (omega arith) in
-      record { is = omega arith; from = omega arith; within = λ w. absurd (omega arith) }
+      record { is = omega arith; from = omega arith; within = omega arith }
 
   pub first-rest : {k : ℕ} → at ≤ length l → FirstOf p (part at (length l) l) k → FirstFrom p l at (at + k)
   first-rest {k} h f =
@@ -77,7 +77,7 @@ module _ {A : Type 0} (p : A → Bool) (l : List A) (at : ℕ) where
       let n : length (drop at l) ≡ length l - at = length-drop at l in
       let q : k ≡ first p (drop at l) = f .is ∙ ap (first p) r in
       let w : k ≤ length (drop at l) = rw r at (f .within) in
-      record { is = omega arith; from = omega arith; within = λ _. omega arith }
+      record { is = omega arith; from = omega arith; within = omega arith }
 
 -- the first place that passes is at most the length
 pub first-within : {A : Type 0} (p : A → Bool) (l : List A) → first p l ≤ length l

@@ -4,3 +4,4 @@ pub mod Classes
 pub mod Compare
 pub mod Trim
 pub mod Cut
+pub mod Words

@@ -1,6 +1,6 @@
 -- Looking through a list: all elements, the first one, a part. A test is a function to Bool; places count from 0.
 -- Assumes nothing.
-use Prim.Native.Nat.{ℕ, suc, _+_, _-_, _≤_}
+use Prim.Native.Nat.{ℕ, suc, _+_, _-_, _≤_, max}
 use mathlib.Core.Bool.{Bool, true, cond, _&&_}
 use mathlib.Core.Path.{_≡_}
 use mathlib.Core.List.{List, [], _∷_}
@@ -26,7 +26,7 @@ module _ {A : Type 0} (p : A → Bool) where
   pub record FirstFrom (xs : List A) (at r : ℕ) : Type 0 where
     pub is : r ≡ at + first (drop at xs)
     pub from : at ≤ r
-    pub within : at ≤ length xs → r ≤ length xs
+    pub within : r ≤ max at (length xs)
 
 -- from place a up to, not including, place e
 abbrev pub part : {A : Type 0} → ℕ → ℕ → List A → List A
