@@ -1,0 +1,3 @@
+pub mod HeaderLaws
+pub mod LineLaws
+pub mod SeenLaws

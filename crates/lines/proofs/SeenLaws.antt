@@ -1,0 +1,220 @@
+-- The loop over the header lines: what was seen of each kind of header, and what is still to be seen. Assumes nothing.
+use mathlib.Core.Path.{_≡_, refl, ap, _∙_, sym}
+use mathlib.Core.Bool.{Bool, true, false, cond, _&&_}
+use mathlib.Core.List.{List, [], _∷_, _++_, append-nil, append-assoc}
+use Prim.Native.Nat.{ℕ, zero, suc, _+_, _-_, _≤_, _<_, min}
+use native.Mathlib.Decide.{ℕ-discrete}
+use native.Mathlib.Omega.{arith}
+use lib.Dec.{eqb}
+use lib.ListN.{length, drop, getD, set, replicate, length-append, length-set, drop-of-length-le}
+use lib.Seq.{getD-set-same, getD-set-other}
+use borrow.Author.Tests.{le-leb, lt-leb, eq-eqb, ne-eqb}
+use Rattle.scan.specs.Lists.{all, part, Holds, FirstFrom}
+use Rattle.scan.specs.Classes.{inClass}
+use Rattle.scan.specs.Trim.{isEmpty}
+use Rattle.scan.specs.Cut.{cut}
+use Rattle.scan.specs.Words.{isWord, placeAmong}
+use Rattle.scan.specs.declared.Case.the-variants.{Ignored}
+use Rattle.scan.specs.declared.Class.the-variants.{NotText}
+use Rattle.scan.proofs.Bools.{never, by-test, by-cases}
+use Rattle.scan.proofs.Loops.{first-within}
+use Rattle.scan.proofs.Parts.{part-length, part-empty, holds-inside}
+use Rattle.lines.specs.Headers.{known, nameOf, isHeader, headerOf, valueOf, valuesOf}
+use Rattle.lines.specs.Lines.{lines, areHeaders, areLines, isLaidOut, requestLine, headerLines, untilEmpty}
+use Rattle.lines.specs.Laid.{HeaderIs, SeenIs, unseen, seenAgain, isPairAt, brokenLines, HeadersAre, LinesAre}
+use Rattle.lines.specs.declared.Seen.{Seen}
+use Rattle.lines.specs.declared.Header.{Header}
+use Rattle.lines.specs.declared.Lines.{Lines}
+use Rattle.lines.proofs.LineLaws.{line-turn, line-text, line-fits, no-headers, no-lines, last-line}
+
+-- one header more of a kind
+seen-again : {s : List ℕ} (vs : List (List ℕ)) {seen : Seen} {v : List ℕ} {a e : ℕ} → SeenIs s vs seen → Holds s v a e → SeenIs s (vs ++ (v ∷ [])) (seenAgain seen a e)
+seen-again {s} [] {seen} {v} {a} {e} i h =
+    let z : seen .times ≡ 0 = i .times in
+    rw (eq-eqb (seen .times) 0 z) (record { times = refl; value = λ w ws q. let x : v ≡ w = cc in rw (← x) h })
+seen-again {s} (u ∷ us) {seen} {v} {a} {e} i h =
+    let l : length (us ++ (v ∷ [])) ≡ length us + 1 = length-append us (v ∷ []) in
+    let z : seen .times ≡ min (suc (length us)) 2 = i .times in
+    rw (ne-eqb (seen .times) 0 (λ q. omega arith)) (record { times = omega arith; value = λ w ws q. let x : u ≡ w = cc in rw (← x) (i .value u us refl) })
+
+-- of the headers of a kind, some are seen and the others still stand in the rest
+pub record Sent (s : List ℕ) (whole rest : List (List ℕ)) (seen : Seen) : Type 0 where
+  pub done : List (List ℕ)
+  pub split : whole ≡ done ++ rest
+  pub is : SeenIs s done seen
+
+unseen-is : (s : List ℕ) → SeenIs s [] unseen
+unseen-is s = record { times = refl; value = λ v vs q. let z : _≡_ {A = ℕ} 0 1 = cc in absurd (omega arith) }
+
+-- the header lines before place p are seen
+pub record Noting (s : List ℕ) (all : List (List ℕ)) (p : ℕ) (hs : List Seen) : Type 0 where
+  pub inside : p ≤ length s
+  pub same : areHeaders (lines (drop p s)) ≡ areHeaders all
+  pub six : length hs ≡ 6
+  pub seen : (k : ℕ) → Sent s (valuesOf k (untilEmpty all)) (valuesOf k (untilEmpty (lines (drop p s)))) (getD hs k unseen)
+
+none-seen : (n k : ℕ) → getD (replicate n unseen) k unseen ≡ unseen
+none-seen zero k = refl
+none-seen (suc n) zero = refl
+none-seen (suc n) (suc k) = none-seen n k
+
+pub noting-start : (s : List ℕ) (p : ℕ) → p ≤ length s → Noting s (lines (drop p s)) p (replicate 6 unseen)
+noting-start s p h =
+    record { inside = h; same = refl; six = refl; seen = λ k. rw (none-seen 6 k) (record { done = []; split = refl; is = unseen-is s }) }
+
+some-part : (s : List ℕ) (p e : ℕ) → p < e → e ≤ length s → isEmpty (part p e s) ≡ false
+some-part s p e h k = filled (part p e s) (rw (part-length p e s k) (omega arith))
+  where
+    filled : (xs : List ℕ) → 0 < length xs → isEmpty xs ≡ false
+    filled [] l = absurd (omega arith)
+    filled (x ∷ xs) l = refl
+
+-- a kind is at most 5 exactly if the line is a header
+few-kinds : (line : List ℕ) → headerOf line ≤ 5
+unfolding placeAmong
+few-kinds line = first-within (isWord Ignored (nameOf line)) (cut 32 known)
+
+is-header : (line : List ℕ) {r : Header} → HeaderIs line r → r .kind ≤ 5 → isHeader line ≡ true
+is-header line {r} h w =
+    by-test (λ t. r .kind ≡ cond t (headerOf line) 6 → t ≡ true) (isHeader line) (λ _ _. refl) (λ _ k. absurd (omega arith)) (h .kind)
+
+not-header : (line : List ℕ) {r : Header} → HeaderIs line r → 5 < r .kind → isHeader line ≡ false
+not-header line {r} h w =
+    by-test (λ t. r .kind ≡ cond t (headerOf line) 6 → t ≡ false) (isHeader line) (λ _ k. absurd (omega (arith, few-kinds line))) (λ _ _. refl) (h .kind)
+
+module _ {s : List ℕ} {ls : List (List ℕ)} {p e : ℕ} {hs : List Seen} {t : Bool} (n : Noting s ls p hs) (f : FirstFrom (inClass NotText) s p e) (q : t ≡ isPairAt s e) where
+  -- no pair ends the line
+  pub noting-bad : t ≡ false → areHeaders ls ≡ false
+  noting-bad z = sym (n .same) ∙ no-headers s f q z
+
+  module _ (y : t ≡ true) where
+    -- the line is empty
+    pub noting-end : e ≡ p → (areHeaders ls ≡ eqb (e + 2) (length s)) × ((k : ℕ) → SeenIs s (valuesOf k (untilEmpty ls)) (getD hs k unseen))
+    noting-end z =
+        let turn : lines (drop p s) ≡ [] ∷ lines (drop (e + 2) s) = line-turn s f q y ∙ ap (λ l. l ∷ lines (drop (e + 2) s)) (part-empty p e s (omega arith)) in (
+          sym (n .same) ∙ ap areHeaders turn ∙ last-line s (e + 2) (line-fits s f q y),
+          λ k. let m = n .seen k in
+              rw (m .split ∙ ap (λ r. m .done ++ valuesOf k (untilEmpty r)) turn ∙ append-nil (m .done)) (m .is),
+        )
+
+    -- it is not
+    module _ (z : e ≡ p → ⊥) {r : Header} (h : HeaderIs (part p e s) r) where
+      more : p < e
+      more = omega (arith, f .from)
+
+      some : isEmpty (part p e s) ≡ false
+      some = some-part s p e more (omega (arith, line-fits s f q y))
+
+      turned : (g : List (List ℕ) → Bool) → g (lines (drop p s)) ≡ g (part p e s ∷ lines (drop (e + 2) s))
+      turned g = ap g (line-turn s f q y)
+
+      after : areHeaders (lines (drop p s)) ≡ isHeader (part p e s) && areHeaders (lines (drop (e + 2) s))
+      after = turned areHeaders ∙ rw (some, line-text s f q)
+
+      -- and no header
+      pub noting-not : 5 < r .kind → areHeaders ls ≡ false
+      noting-not w = sym (n .same) ∙ after ∙ rw (not-header (part p e s) h w)
+
+      pub noting-more : r .kind ≤ 5 → Noting s ls (e + 2) (set hs (r .kind) (seenAgain (getD hs (r .kind) unseen) (p + r .start) (p + r .end)))
+      noting-more w =
+          let head : isHeader (part p e s) ≡ true = is-header (part p e s) h w in
+          let kind : r .kind ≡ headerOf (part p e s) = h .kind ∙ rw head in
+          let value : Holds s (valueOf (part p e s)) (p + r .start) (p + r .end) =
+          holds-inside p e s refl (omega (arith, more)) (omega (arith, line-fits s f q y)) (h .value head)
+          in
+          record {
+            inside = line-fits s f q y;
+            same = sym (after ∙ rw head) ∙ n .same;
+            six = length-set hs (r .kind) (seenAgain (getD hs (r .kind) unseen) (p + r .start) (p + r .end)) ∙ n .six;
+            seen = λ k. sent-more k (n .seen k) (rest k) kind value;
+          }
+        where
+          rest : (k : ℕ) → valuesOf k (untilEmpty (lines (drop p s))) ≡ cond (eqb (headerOf (part p e s)) k) (valueOf (part p e s) ∷ valuesOf k (untilEmpty (lines (drop (e + 2) s)))) (valuesOf k (untilEmpty (lines (drop (e + 2) s))))
+          rest k = ap (λ l. valuesOf k (untilEmpty l)) (line-turn s f q y) ∙ rw some
+
+          sent-more : (k : ℕ) → Sent s (valuesOf k (untilEmpty ls)) (valuesOf k (untilEmpty (lines (drop p s)))) (getD hs k unseen)
+              → valuesOf k (untilEmpty (lines (drop p s))) ≡ cond (eqb (headerOf (part p e s)) k) (valueOf (part p e s) ∷ valuesOf k (untilEmpty (lines (drop (e + 2) s)))) (valuesOf k (untilEmpty (lines (drop (e + 2) s))))
+              → r .kind ≡ headerOf (part p e s) → Holds s (valueOf (part p e s)) (p + r .start) (p + r .end)
+              → Sent s (valuesOf k (untilEmpty ls)) (valuesOf k (untilEmpty (lines (drop (e + 2) s)))) (getD (set hs (r .kind) (seenAgain (getD hs (r .kind) unseen) (p + r .start) (p + r .end))) k unseen)
+          sent-more k m c i v =
+              by-cases (ℕ-discrete (r .kind) k)
+              (λ j.
+              let here : valuesOf k (untilEmpty (lines (drop p s))) ≡ valueOf (part p e s) ∷ valuesOf k (untilEmpty (lines (drop (e + 2) s))) = c ∙ rw (eq-eqb (headerOf (part p e s)) k (sym i ∙ j)) in
+              let l : k < length hs = omega (arith, n .six) in
+              rw (j, getD-set-same hs k (seenAgain (getD hs k unseen) (p + r .start) (p + r .end)) unseen l)
+              (record {
+                done = m .done ++ (valueOf (part p e s) ∷ []);
+                split = m .split ∙ ap (λ x. m .done ++ x) here ∙ sym (append-assoc (m .done) (valueOf (part p e s) ∷ []) (valuesOf k (untilEmpty (lines (drop (e + 2) s)))));
+                is = seen-again (m .done) (m .is) v;
+              }))
+              (λ j.
+              let away : valuesOf k (untilEmpty (lines (drop p s))) ≡ valuesOf k (untilEmpty (lines (drop (e + 2) s))) = c ∙ rw (ne-eqb (headerOf (part p e s)) k (λ x. j (i ∙ x))) in
+              rw (getD-set-other hs (r .kind) k (seenAgain (getD hs (r .kind) unseen) (p + r .start) (p + r .end)) unseen (λ x. j (sym x)))
+              (record { done = m .done; split = m .split ∙ ap (λ x. m .done ++ x) away; is = m .is }))
+
+-- THE WAYS OUT OF THE LOOP, of the header lines from place p on
+pub headers-broken : {s : List ℕ} {line : ℕ} {r : Lines} → r ≡ brokenLines → areHeaders (lines (drop (line + 2) s)) ≡ false → HeadersAre s line r
+headers-broken e n = rw e (record { sound = sym n; ended = λ y. never y refl; headers = λ y. never y refl; none = λ _. refl })
+
+pub headers-whole : {s : List ℕ} {line : ℕ} {hs : List Seen} → areHeaders (lines (drop (line + 2) s)) ≡ true
+    → ((k : ℕ) → SeenIs s (valuesOf k (untilEmpty (lines (drop (line + 2) s)))) (getD hs k unseen)) → HeadersAre s line (record { headers = hs; sound = true; line = line })
+headers-whole w h = record { sound = sym w; ended = λ _. refl; headers = λ _. h; none = λ n. never refl n }
+
+-- a value's span, moved to its line's place, stays inside the request
+pub span-inside : (s : List ℕ) {p e : ℕ} {r : Header} → p ≤ e → e ≤ length s → HeaderIs (part p e s) r → (p + r .start ≤ length s) × (p + r .end ≤ length s)
+span-inside s {p} {e} {r} h k i =
+    let l : length (part p e s) ≡ e - p = part-length p e s k in
+    let o : r .start ≤ r .end = i .order in
+    let w : r .end ≤ length (part p e s) = i .within in
+    (omega arith, omega arith)
+
+-- THE WHOLE REQUEST
+pub lines-broken : {s : List ℕ} {r : Lines} → isLaidOut s ≡ false → r ≡ brokenLines → LinesAre s r
+lines-broken n e = rw e (record { sound = sym n; line = λ y. never y refl; headers = λ y. never y refl; none = λ _. refl })
+
+pub lines-long : (s : List ℕ) {r : Lines} → 2048 < length s → r ≡ brokenLines → LinesAre s r
+unfolding isLaidOut
+lines-long s h e = lines-broken (rw (lt-leb (length s) 2048 h)) e
+
+module _ (s : List ℕ) {e : ℕ} (short : length s ≤ 2048) (f : FirstFrom (inClass NotText) s 0 e) {t : Bool} (q : t ≡ isPairAt s e) where
+  laid : isLaidOut s ≡ areLines (lines s)
+  unfolding isLaidOut
+  laid = rw (le-leb (length s) 2048 short)
+
+  pub lines-unended : {r : Lines} → t ≡ false → r ≡ brokenLines → LinesAre s r
+  lines-unended n b = lines-broken (laid ∙ no-lines s f q n) b
+
+  module _ (y : t ≡ true) where
+    -- the first line is empty, so it must be the last
+    alone : e ≡ 0 → lines s ≡ [] ∷ lines (drop (e + 2) s)
+    alone z = line-turn s f q y ∙ ap (λ l. l ∷ lines (drop (e + 2) s)) (part-empty 0 e s (omega arith))
+
+    laid-alone : e ≡ 0 → isLaidOut s ≡ eqb 2 (length s)
+    laid-alone z = laid ∙ ap areLines (alone z) ∙ last-line s (e + 2) (line-fits s f q y) ∙ ap (λ n. eqb (n + 2) (length s)) z
+
+    pub lines-alone : e ≡ 0 → length s ≡ 2 → LinesAre s (record { headers = replicate 6 unseen; sound = true; line = 0 })
+    unfolding requestLine headerLines
+    lines-alone z l =
+        let last : lines s ≡ [] ∷ [] ∷ [] = alone z ∙ ap (λ r. [] ∷ lines r) (drop-of-length-le s {i = e + 2} (omega arith)) in
+        record {
+          sound = sym (laid-alone z ∙ eq-eqb 2 (length s) (sym l));
+          line = λ _. rw last (record { order = omega arith; within = omega arith; is = refl });
+          headers = λ _ k. rw (last, none-seen 6 k) (unseen-is s);
+          none = λ n. never refl n;
+        }
+
+    pub lines-follow : {r : Lines} → e ≡ 0 → (length s ≡ 2 → ⊥) → r ≡ brokenLines → LinesAre s r
+    lines-follow z l b = lines-broken (laid-alone z ∙ ne-eqb 2 (length s) (λ x. l (sym x))) b
+
+    pub lines-whole : {r : Lines} → (e ≡ 0 → ⊥) → HeadersAre s e r → LinesAre s r
+    unfolding requestLine headerLines
+    lines-whole {r} z h =
+        let turn : lines s ≡ part 0 e s ∷ lines (drop (e + 2) s) = line-turn s f q y in
+        let fit : e + 2 ≤ length s = line-fits s f q y in
+        let some : isEmpty (part 0 e s) ≡ false = some-part s 0 e (omega arith) (omega arith) in
+        record {
+          sound = h .sound ∙ sym (laid ∙ ap areLines turn ∙ rw (some, line-text s f q));
+          line = λ w. rw (turn, h .ended w) (record { order = omega arith; within = omega arith; is = refl });
+          headers = λ w k. rw turn (h .headers w k);
+          none = h .none;
+        }

@@ -1,0 +1,59 @@
+-- What one pass over a request's lines finds: whether the layout is whole, and where the request line and the known headers stand.
+-- Assumes nothing.
+use Prim.Native.Nat.{ℕ, _+_, _≤_, min}
+use mathlib.Core.Path.{_≡_}
+use mathlib.Core.Bool.{Bool, true, false, cond, _&&_}
+use mathlib.Core.List.{List, _∷_}
+use lib.Dec.{eqb}
+use lib.ListN.{length, drop, getD, replicate}
+use Rattle.scan.specs.Lists.{Holds}
+use Rattle.lines.specs.Headers.{isHeader, headerOf, valueOf, valuesOf}
+use Rattle.lines.specs.Lines.{lines, areHeaders, untilEmpty, isLaidOut, requestLine, headerLines}
+use Rattle.lines.specs.declared.Seen.{Seen}
+use Rattle.lines.specs.declared.Header.{Header}
+use Rattle.lines.specs.declared.Lines.{Lines}
+
+-- one line: its kind, 6 where it is no header, and where its value stands
+pub record HeaderIs (line : List ℕ) (r : Header) : Type 0 where
+  pub kind : r .kind ≡ cond (isHeader line) (headerOf line) 6
+  pub value : isHeader line ≡ true → Holds line (valueOf line) (r .start) (r .end)
+  pub order : r .start ≤ r .end
+  pub within : r .end ≤ length line
+
+abbrev pub noHeader : Header
+noHeader = record { kind = 6; start = 0; end = 0 }
+
+-- headers of one kind with these values were sent: how often, two standing for more, and where the first value stands in s
+pub record SeenIs (s : List ℕ) (values : List (List ℕ)) (seen : Seen) : Type 0 where
+  pub times : seen .times ≡ min (length values) 2
+  pub value : (v : List ℕ) (vs : List (List ℕ)) → values ≡ v ∷ vs → Holds s v (seen .start) (seen .end)
+
+abbrev pub unseen : Seen
+unseen = record { times = 0; start = 0; end = 0 }
+
+-- one more, with its value from start to end: the first value stays
+abbrev pub seenAgain : Seen → ℕ → ℕ → Seen
+seenAgain seen start end =
+    cond (eqb (seen .times) 0) (record { times = 1; start = start; end = end }) (record { times = 2; start = seen .start; end = seen .end })
+
+-- CR LF stands at the place
+abbrev pub isPairAt : List ℕ → ℕ → Bool
+isPairAt s at = eqb (getD s at 0) 13 && eqb (getD s (at + 1) 0) 10
+
+-- what is given of a broken layout
+abbrev pub brokenLines : Lines
+brokenLines = record { headers = replicate 6 unseen; sound = false; line = 0 }
+
+-- the header lines alone, where the request line ends at `line`
+pub record HeadersAre (s : List ℕ) (line : ℕ) (r : Lines) : Type 0 where
+  pub sound : r .sound ≡ areHeaders (lines (drop (line + 2) s))
+  pub ended : r .sound ≡ true → r .line ≡ line
+  pub headers : r .sound ≡ true → (k : ℕ) → SeenIs s (valuesOf k (untilEmpty (lines (drop (line + 2) s)))) (getD (r .headers) k unseen)
+  pub none : r .sound ≡ false → r ≡ brokenLines
+
+-- the whole request
+pub record LinesAre (s : List ℕ) (r : Lines) : Type 0 where
+  pub sound : r .sound ≡ isLaidOut s
+  pub line : r .sound ≡ true → Holds s (requestLine s) 0 (r .line)
+  pub headers : r .sound ≡ true → (k : ℕ) → SeenIs s (valuesOf k (headerLines s)) (getD (r .headers) k unseen)
+  pub none : r .sound ≡ false → r ≡ brokenLines
