@@ -31,11 +31,11 @@ use Rattle.lines.proofs.LineLaws.{line-turn, line-text, line-fits, no-h
 seen-again : {s : List ℕ} (vs : List (List ℕ)) {seen : Seen} {v : List ℕ} {a e : ℕ} → SeenIs s vs seen → Holds s v a e → SeenIs s (vs ++ (v ∷ [])) (seenAgain seen a e)
 seen-again {s} [] {seen} {v} {a} {e} i h =
     let z : seen .times ≡ 0 = i .times in
-    rw (eq-eqb (seen .times) 0 z) (record { times = refl; value = λ w ws q. let x : v ≡ w = cc in rw (← x) h })
+    rw (eq-eqb (seen .times) 0 z) (record { times = refl; value = h })
 seen-again {s} (u ∷ us) {seen} {v} {a} {e} i h =
     let l : length (us ++ (v ∷ [])) ≡ length us + 1 = length-append us (v ∷ []) in
     let z : seen .times ≡ min (suc (length us)) 2 = i .times in
-    rw (ne-eqb (seen .times) 0 (λ q. omega arith)) (record { times = omega arith; value = λ w ws q. let x : u ≡ w = cc in rw (← x) (i .value u us refl) })
+    rw (ne-eqb (seen .times) 0 (λ q. omega arith)) (record { times = omega arith; value = i .value })
 
 -- of the headers of a kind, some are seen and the others still stand in the rest
 pub record Sent (s : List ℕ) (whole rest : List (List ℕ)) (seen : Seen) : Type 0 where
@@ -44,7 +44,7 @@ pub record Sent (s : List ℕ) (whole rest : List (List ℕ)) (seen : Seen) : Ty
   pub is : SeenIs s done seen
 
 unseen-is : (s : List ℕ) → SeenIs s [] unseen
-unseen-is s = record { times = refl; value = λ v vs q. let z : _≡_ {A = ℕ} 0 1 = cc in absurd (omega arith) }
+unseen-is s = record { times = refl; value = record { order = omega arith; within = omega arith; is = refl } }
 
 -- the header lines before place p are seen
 pub record Noting (s : List ℕ) (all : List (List ℕ)) (p : ℕ) (hs : List Seen) : Type 0 where

@@ -36,3 +36,8 @@ headerOf line = placeAmong Ignored known (nameOf line)
 abbrev pub valuesOf : ℕ → List (List ℕ) → List (List ℕ)
 valuesOf k [] = []
 valuesOf k (h ∷ hs) = cond (eqb (headerOf h) k) (valueOf h ∷ valuesOf k hs) (valuesOf k hs)
+
+-- the first of them, empty where there is none
+abbrev pub firstValue : List (List ℕ) → List ℕ
+firstValue [] = []
+firstValue (v ∷ vs) = v

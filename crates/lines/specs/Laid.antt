@@ -3,11 +3,11 @@
 use Prim.Native.Nat.{ℕ, _+_, _≤_, min}
 use mathlib.Core.Path.{_≡_}
 use mathlib.Core.Bool.{Bool, true, false, cond, _&&_}
-use mathlib.Core.List.{List, _∷_}
+use mathlib.Core.List.{List}
 use lib.Dec.{eqb}
 use lib.ListN.{length, drop, getD, replicate}
 use Rattle.scan.specs.Lists.{Holds}
-use Rattle.lines.specs.Headers.{isHeader, headerOf, valueOf, valuesOf}
+use Rattle.lines.specs.Headers.{isHeader, headerOf, valueOf, valuesOf, firstValue}
 use Rattle.lines.specs.Lines.{lines, areHeaders, untilEmpty, isLaidOut, requestLine, headerLines}
 use Rattle.lines.specs.declared.Seen.{Seen}
 use Rattle.lines.specs.declared.Header.{Header}
@@ -26,7 +26,7 @@ noHeader = record { kind = 6; start = 0; end = 0 }
 -- headers of one kind with these values were sent: how often, two standing for more, and where the first value stands in s
 pub record SeenIs (s : List ℕ) (values : List (List ℕ)) (seen : Seen) : Type 0 where
   pub times : seen .times ≡ min (length values) 2
-  pub value : (v : List ℕ) (vs : List (List ℕ)) → values ≡ v ∷ vs → Holds s v (seen .start) (seen .end)
+  pub value : Holds s (firstValue values) (seen .start) (seen .end)
 
 abbrev pub unseen : Seen
 unseen = record { times = 0; start = 0; end = 0 }

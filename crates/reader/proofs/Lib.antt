@@ -1,0 +1,4 @@
+pub mod FieldLaws
+pub mod QueryLaws
+pub mod AimLaws
+pub mod RequestLaws

@@ -1,0 +1,229 @@
+-- The loop over the parts of a query: which attributes are taken, their codes, and where their texts stand. Assumes nothing.
+use mathlib.Core.Path.{_≡_, refl, ap, _∙_, sym}
+use mathlib.Core.Bool.{Bool, true, false, not, cond, _&&_, and-false}
+use mathlib.Core.List.{List, [], _∷_}
+use Prim.Native.Nat.{ℕ, zero, suc, _+_, _-_, _≤_, _<_}
+use native.Mathlib.Decide.{ℕ-discrete}
+use native.Mathlib.Omega.{arith}
+use lib.Dec.{ltb, eqb}
+use lib.ListN.{length, drop, getD, set, replicate, length-set}
+use lib.Seq.{getD-set-same, getD-set-other}
+use borrow.Author.Tests.{ltb-true, lt-ltb, le-ltb, eq-eqb, ne-eqb}
+use Rattle.scan.specs.Lists.{all, part, Holds, FirstFrom}
+use Rattle.scan.specs.Cut.{is, cutFrom}
+use Rattle.scan.specs.declared.Span.{Span}
+use Rattle.scan.proofs.Bools.{never, by-test, by-cases}
+use Rattle.scan.proofs.Cuts.{cut-start, cut-turn, cut-end}
+use Rattle.scan.proofs.Parts.{part-length, part-part, part-rest}
+use Rattle.digits.specs.Reading.{isValue}
+use Rattle.digits.specs.declared.Read.{Read}
+use Rattle.tuning.specs.Attributes.{attributeOf}
+use Rattle.tuning.specs.Values.{valueOf}
+use Rattle.reader.specs.Query.{isPart, equals, valueIn, attributeIn, isAmong, areParts, isQuery, isWithin, areWithin, codeFrom, codeAmong, codeOf, textAmong, textOf, PartIs, nowhere, brokenQuery, QueryIs}
+use Rattle.reader.specs.declared.query.Part.{Part}
+use Rattle.reader.specs.declared.query.Query.{Query}
+
+-- an attribute below 13 is named by a part with a value
+is-part : (p : List ℕ) → attributeIn p < 13 → isPart p ≡ true
+unfolding attributeIn
+is-part p h = by-test (λ t. cond t (attributeOf (part 0 (equals p) p)) 13 < 13 → t ≡ true) (isPart p) (λ _ _. refl) (λ _ k. absurd (omega arith)) h
+
+-- and its value stands behind the `=`
+pub value-inside : (q : List ℕ) (p e : ℕ) {r : Part} → e ≤ length q → PartIs (part p e q) r → r .attribute ≤ 12 → p + r .value < e
+value-inside q p e {r} k i h =
+    let a : r .attribute ≡ attributeIn (part p e q) = i .attribute in
+    let t : isPart (part p e q) ≡ true = is-part (part p e q) (omega arith) in
+    let l : equals (part p e q) + 1 < length (part p e q) = ltb-true (equals (part p e q) + 1) (length (part p e q)) t in
+    let n : length (part p e q) ≡ e - p = part-length p e q k in
+    let v : r .value ≡ equals (part p e q) + 1 = i .value in
+    omega arith
+
+-- where the text of an attribute stands, once it is taken
+pub record Spanned (q whole rest : List ℕ) (t : Bool) (span : Span) : Type 0 where
+  pub there : t ≡ true → Holds q whole (span .start) (span .end)
+  pub later : t ≡ false → (whole ≡ rest) × Holds q [] (span .start) (span .end)
+
+-- the parts before place p are read
+pub record Asking (frontends : ℕ) (q : List ℕ) (p : ℕ) (codes : List ℕ) (spans : List Span) (w : Bool) : Type 0 where
+  pub inside : p ≤ length q + 1
+  pub long : length codes ≡ 13
+  pub wide : length spans ≡ 13
+  pub taken : List ℕ
+  pub form : areParts taken (cutFrom 38 p q) ≡ isQuery q
+  pub marked : (a : ℕ) → isAmong a taken ≡ not (eqb (getD spans a nowhere .end) 0)
+  pub values : w && all (isWithin frontends) (cutFrom 38 p q) ≡ areWithin frontends q
+  pub coded : (a : ℕ) → codeOf frontends a q ≡ cond (isAmong a taken) (getD codes a 0) (codeAmong frontends a (cutFrom 38 p q))
+  pub blank : (a : ℕ) → isAmong a taken ≡ false → getD codes a 0 ≡ 0
+  pub held : (a : ℕ) → Spanned q (textOf a q) (textAmong a (cutFrom 38 p q)) (isAmong a taken) (getD spans a nowhere)
+
+pub all-same : {A : Type 0} (n k : ℕ) (x : A) → getD (replicate n x) k x ≡ x
+all-same zero k x = refl
+all-same (suc n) zero x = refl
+all-same (suc n) (suc k) x = all-same n k x
+
+nothing-held : (q : List ℕ) → Holds q [] 0 0
+nothing-held q = record { order = omega arith; within = omega arith; is = refl }
+
+pub asking-start : (frontends : ℕ) (q : List ℕ) → Asking frontends q 0 (replicate 13 0) (replicate 13 nowhere) true
+unfolding isQuery areWithin codeOf textOf
+asking-start frontends q =
+    record {
+      inside = omega arith;
+      long = refl;
+      wide = refl;
+      taken = [];
+      form = ap (areParts []) (sym (cut-start 38 q));
+      marked = λ a. rw (all-same 13 a nowhere);
+      values = ap (all (isWithin frontends)) (sym (cut-start 38 q));
+      coded = λ a. ap (codeAmong frontends a) (cut-start 38 q);
+      blank = λ a _. all-same 13 a 0;
+      held = λ a. rw (all-same 13 a nowhere) (record { there = λ y. never y refl; later = λ _. (ap (textAmong a) (cut-start 38 q), nothing-held q) });
+    }
+
+pub query-broken : {frontends : ℕ} {q : List ℕ} {r : Query} → isQuery q ≡ false → r ≡ brokenQuery → QueryIs frontends q r
+query-broken n e =
+    rw e
+    (record {
+      sound = sym n;
+      within = λ y. never y refl;
+      codes = λ y. never y refl;
+      spans = λ y. never y refl;
+      thirteen = (refl, refl);
+      broken = λ _. refl;
+    })
+
+pub asking-end : {frontends : ℕ} {q : List ℕ} {p : ℕ} {codes : List ℕ} {spans : List Span} {w : Bool} → Asking frontends q p codes spans w → length q < p
+    → QueryIs frontends q (record { codes = codes; spans = spans; sound = true; within = w })
+asking-end {frontends} {q} {p} {codes} {spans} {w} k h =
+    let none : cutFrom 38 p q ≡ [] = cut-end 38 p q h in
+    record {
+      sound = sym (ap (areParts (k .taken)) none) ∙ k .form;
+      within = λ _. sym (ap (λ l. w && all (isWithin frontends) l) none ∙ and-true w) ∙ k .values;
+      codes = λ _ a. sym (k .coded a ∙ ap (λ l. cond (isAmong a (k .taken)) (getD codes a 0) (codeAmong frontends a l)) none ∙ coded a);
+      spans = λ _ a. spanned a (k .held a);
+      thirteen = (k .long, k .wide);
+      broken = λ n. never refl n;
+    }
+  where
+    and-true : (t : Bool) → t && true ≡ t
+    and-true true = refl
+    and-true false = refl
+
+    coded : (a : ℕ) → cond (isAmong a (k .taken)) (getD codes a 0) 0 ≡ getD codes a 0
+    coded a = by-test (λ t. cond t (getD codes a 0) 0 ≡ getD codes a 0) (isAmong a (k .taken)) (λ _. refl) (λ n. sym (k .blank a n))
+
+    spanned : (a : ℕ) → Spanned q (textOf a q) (textAmong a (cutFrom 38 p q)) (isAmong a (k .taken)) (getD spans a nowhere) → Holds q (textOf a q) (getD spans a nowhere .start) (getD spans a nowhere .end)
+    spanned a s = by-test (λ t. isAmong a (k .taken) ≡ t → Holds q (textOf a q) (getD spans a nowhere .start) (getD spans a nowhere .end)) (isAmong a (k .taken)) (λ _ y. s .there y) (λ _ n. rw (s .later n .0 ∙ ap (textAmong a) (cut-end 38 p q h)) (s .later n .1)) refl
+
+module _ {frontends : ℕ} {q : List ℕ} {p e : ℕ} {codes : List ℕ} {spans : List Span} {w : Bool} {r : Part} (k : Asking frontends q p codes spans w) (h : p ≤ length q) (f : FirstFrom (is 38) q p e) (i : PartIs (part p e q) r) where
+  turned : cutFrom 38 p q ≡ part p e q ∷ cutFrom 38 (e + 1) q
+  turned = cut-turn 38 p q h (f .is)
+
+  form-turned : isQuery q ≡ ltb (r .attribute) 13 && (not (isAmong (r .attribute) (k .taken)) && areParts (r .attribute ∷ k .taken) (cutFrom 38 (e + 1) q))
+  form-turned = sym (k .form) ∙ ap (areParts (k .taken)) turned ∙ rw (← i .attribute)
+
+  pub asking-unknown : 12 < r .attribute → isQuery q ≡ false
+  asking-unknown u = form-turned ∙ rw (le-ltb (r .attribute) 13 (omega arith))
+
+  pub asking-twice : (getD spans (r .attribute) nowhere .end ≡ 0 → ⊥) → isQuery q ≡ false
+  asking-twice z = form-turned ∙ rw (k .marked (r .attribute) ∙ ap not (ne-eqb (getD spans (r .attribute) nowhere .end) 0 z), and-false)
+
+  -- a part that passes
+  module _ (few : r .attribute ≤ 12) (new : getD spans (r .attribute) nowhere .end ≡ 0) {v : Read} (read : v ≡ valueOf frontends (r .attribute) (part (p + r .value) e q)) where
+    abbrev b : ℕ
+    b = r .attribute
+
+    free : isAmong b (k .taken) ≡ false
+    free = k .marked b ∙ ap not (eq-eqb (getD spans b nowhere .end) 0 new)
+
+    bounds : p + r .value < e
+    bounds = value-inside q p e (omega (arith, f .within)) i few
+
+    value-is : part (p + r .value) e q ≡ valueIn (part p e q)
+    value-is =
+        let n : length (part p e q) ≡ e - p = part-length p e q (omega (arith, f .within)) in
+        let m : p + (e - p) ≡ e = omega (arith, f .from) in
+        ap (λ j. part (p + r .value) j q) (sym m) ∙ sym (part-part (r .value) (e - p) p e q (omega arith))
+        ∙ part-rest (r .value) (e - p) (part p e q) (omega arith) ∙ ap (λ j. drop j (part p e q)) (i .value)
+
+    v-is : v ≡ valueOf frontends b (valueIn (part p e q))
+    v-is = read ∙ ap (valueOf frontends b) value-is
+
+    abbrev here : Span
+    here = record { start = p + r .value; end = e }
+
+    pub asking-more : Asking frontends q (e + 1) (set codes b (codeFrom v)) (set spans b here) (w && isValue v)
+    unfolding textOf codeOf
+    asking-more =
+        record {
+          inside = omega (arith, f .within);
+          long = length-set codes b (codeFrom v) ∙ k .long;
+          wide = length-set spans b here ∙ k .wide;
+          taken = b ∷ k .taken;
+          form = sym (form-turned ∙ rw (lt-ltb b 13 (omega (arith, few)), free));
+          marked = λ a. by-cases (ℕ-discrete a b) (λ z. marked-here a z) (λ z. marked-there a z);
+          values = values;
+          coded = λ a. by-cases (ℕ-discrete a b) (λ z. coded-here a z) (λ z. coded-there a z);
+          blank = λ a n. by-cases (ℕ-discrete a b) (λ z. never (rw (eq-eqb a b z)) n) (λ z. blank-there a z n);
+          held = λ a. by-cases (ℕ-discrete a b) (λ z. held-here a z) (λ z. held-there a z);
+        }
+      where
+        same-span : (a : ℕ) → a ≡ b → getD (set spans b here) a nowhere ≡ here
+        same-span a z = rw z (getD-set-same spans b here nowhere (omega (arith, few, k .wide)))
+
+        other-span : (a : ℕ) → (a ≡ b → ⊥) → getD (set spans b here) a nowhere ≡ getD spans a nowhere
+        other-span a z = getD-set-other spans b a here nowhere z
+
+        among : (a : ℕ) → (a ≡ b → ⊥) → isAmong a (b ∷ k .taken) ≡ isAmong a (k .taken)
+        among a z = rw (ne-eqb a b z)
+
+        marked-here : (a : ℕ) → a ≡ b → isAmong a (b ∷ k .taken) ≡ not (eqb (getD (set spans b here) a nowhere .end) 0)
+        marked-here a z = rw (same-span a z, eq-eqb a b z, ne-eqb e 0 (λ y. omega (arith, bounds)))
+
+        marked-there : (a : ℕ) → (a ≡ b → ⊥) → isAmong a (b ∷ k .taken) ≡ not (eqb (getD (set spans b here) a nowhere .end) 0)
+        marked-there a z = among a z ∙ k .marked a ∙ ap (λ (s : Span). not (eqb (s .end) 0)) (sym (other-span a z))
+
+        assoc : (x y z : Bool) → (x && y) && z ≡ x && (y && z)
+        assoc true y z = refl
+        assoc false y z = refl
+
+        values : (w && isValue v) && all (isWithin frontends) (cutFrom 38 (e + 1) q) ≡ areWithin frontends q
+        values =
+            assoc w (isValue v) (all (isWithin frontends) (cutFrom 38 (e + 1) q))
+            ∙ ap (λ x. w && (x && all (isWithin frontends) (cutFrom 38 (e + 1) q))) (ap isValue (v-is ∙ ap (λ j. valueOf frontends j (valueIn (part p e q))) (i .attribute)))
+            ∙ ap (λ l. w && all (isWithin frontends) l) (sym turned) ∙ k .values
+
+        code-turned : (a : ℕ) → codeAmong frontends a (cutFrom 38 p q) ≡ cond (eqb b a) (codeFrom (valueOf frontends a (valueIn (part p e q)))) (codeAmong frontends a (cutFrom 38 (e + 1) q))
+        code-turned a = ap (codeAmong frontends a) turned ∙ rw (← i .attribute)
+
+        coded-here : (a : ℕ) → a ≡ b → codeOf frontends a q ≡ cond (isAmong a (b ∷ k .taken)) (getD (set codes b (codeFrom v)) a 0) (codeAmong frontends a (cutFrom 38 (e + 1) q))
+        coded-here a z =
+            k .coded a ∙ rw (z, free) (code-turned b ∙ rw (eq-eqb b b refl, getD-set-same codes b (codeFrom v) 0 (omega (arith, few, k .long))) (ap codeFrom (sym v-is)))
+
+        coded-there : (a : ℕ) → (a ≡ b → ⊥) → codeOf frontends a q ≡ cond (isAmong a (b ∷ k .taken)) (getD (set codes b (codeFrom v)) a 0) (codeAmong frontends a (cutFrom 38 (e + 1) q))
+        coded-there a z =
+            k .coded a
+            ∙ rw (among a z, getD-set-other codes b a (codeFrom v) 0 z)
+            (ap (λ c. cond (isAmong a (k .taken)) (getD codes a 0) c) (code-turned a ∙ rw (ne-eqb b a (λ y. z (sym y)))))
+
+        blank-there : (a : ℕ) → (a ≡ b → ⊥) → isAmong a (b ∷ k .taken) ≡ false → getD (set codes b (codeFrom v)) a 0 ≡ 0
+        blank-there a z n = getD-set-other codes b a (codeFrom v) 0 z ∙ k .blank a (sym (among a z) ∙ n)
+
+        text-turned : (a : ℕ) → textAmong a (cutFrom 38 p q) ≡ cond (eqb b a) (valueIn (part p e q)) (textAmong a (cutFrom 38 (e + 1) q))
+        text-turned a = ap (textAmong a) turned ∙ rw (← i .attribute)
+
+        held-value : Holds q (valueIn (part p e q)) (p + r .value) e
+        held-value = record { order = omega (arith, bounds); within = omega (arith, f .within); is = value-is }
+
+        held-here : (a : ℕ) → a ≡ b → Spanned q (textOf a q) (textAmong a (cutFrom 38 (e + 1) q)) (isAmong a (b ∷ k .taken)) (getD (set spans b here) a nowhere)
+        held-here a z =
+            let text : textOf b q ≡ valueIn (part p e q) = k .held b .later free .0 ∙ text-turned b ∙ rw (eq-eqb b b refl) in
+            rw (same-span a z, z) (record { there = λ _. rw text held-value; later = λ n. never (rw (eq-eqb b b refl)) n })
+
+        held-there : (a : ℕ) → (a ≡ b → ⊥) → Spanned q (textOf a q) (textAmong a (cutFrom 38 (e + 1) q)) (isAmong a (b ∷ k .taken)) (getD (set spans b here) a nowhere)
+        held-there a z =
+            rw (other-span a z, among a z)
+            (record {
+              there = k .held a .there;
+              later = λ n. (k .held a .later n .0 ∙ text-turned a ∙ rw (ne-eqb b a (λ y. z (sym y))), k .held a .later n .1);
+            })

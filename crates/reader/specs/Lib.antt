@@ -1,0 +1,5 @@
+pub mod Fields
+pub mod Heads
+pub mod Query
+pub mod Refusals
+pub mod Request

@@ -1,0 +1,4 @@
+pub mod Line
+pub mod Uri
+pub mod Steps
+pub mod Samples
