@@ -2,10 +2,9 @@
 use mathlib.Core.Path.{_≡_, refl, ap, ap₂, _∙_, sym}
 use mathlib.Core.Bool.{Bool, true, false}
 use mathlib.Core.List.{List}
-use Prim.Native.Nat.{ℕ, _+_, _≤_, _<_}
+use Prim.Native.Nat.{ℕ, _+_, _≤_}
 use native.Mathlib.Omega.{arith}
 use lib.ListN.{length, drop, drop-of-length-le}
-use borrow.Author.Tests.{lt-ltb, le-ltb}
 use Rattle.scan.specs.Text.{text}
 use Rattle.scan.specs.Lists.{part, FirstOf}
 use Rattle.scan.specs.Cut.{is}
@@ -15,8 +14,6 @@ use Rattle.digits.specs.declared.Read.{Read}
 use Rattle.digits.specs.declared.Read.the-variants.{Value, Nothing}
 use Rattle.digits.specs.declared.Zeros.the-variants.{Refused}
 use Rattle.target.specs.Uri.{startsWith}
-use Rattle.tuning.specs.Attributes.{attributeOf}
-use Rattle.reader.specs.Query.{attributeIn, PartIs}
 use Rattle.reader.specs.Fields.{sessionFrom, sessionIn, portFrom, portsIn, transportOf}
 use Rattle.reader.specs.declared.fields.Transport.{Transport}
 use Rattle.reader.specs.declared.fields.Transport.the-variants.{Other}
@@ -54,12 +51,3 @@ module _ (v : List ℕ) {t : Bool} (e : t ≡ startsWith (text "RTP/AVP;unicast;
   pub transport-ports : t ≡ true → {r : Transport} → r ≡ portsIn (part 28 (length v) v) → r ≡ transportOf v
   unfolding transportOf
   transport-ports y q = rw (sym e ∙ y) (q ∙ ap portsIn (part-rest 28 (length v) v (omega arith)))
-
--- one part of a query
-pub part-whole : (p : List ℕ) {k a : ℕ} → FirstOf (is 61) p k → k + 1 < length p → a ≡ attributeOf (part 0 k p) → PartIs p (record { attribute = a; value = k + 1 })
-unfolding attributeIn
-part-whole p {k} f h e = record { attribute = rw (← f .is, lt-ltb (k + 1) (length p) h) e; value = ap (λ j. j + 1) (f .is) }
-
-pub part-broken : (p : List ℕ) {k : ℕ} → FirstOf (is 61) p k → length p ≤ k + 1 → PartIs p (record { attribute = 13; value = k + 1 })
-unfolding attributeIn
-part-broken p {k} f h = record { attribute = rw (← f .is, le-ltb (k + 1) (length p) h); value = ap (λ j. j + 1) (f .is) }

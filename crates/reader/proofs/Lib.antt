@@ -1,4 +1,2 @@
 pub mod FieldLaws
-pub mod QueryLaws
-pub mod AimLaws
 pub mod RequestLaws

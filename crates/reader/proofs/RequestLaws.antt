@@ -28,15 +28,16 @@ use Rattle.target.specs.Line.{isThree, linePart, PartsAre}
 use Rattle.target.specs.declared.Parts.{Parts}
 use Rattle.reader.specs.Fields.{cseqFrom, sessionOf, sessionIn, transportOf}
 use Rattle.reader.specs.Heads.{textAt, cseqAt, sessionAt, areTwice, Begun, Headed, Passing}
-use Rattle.reader.specs.Query.{nowhere}
-use Rattle.reader.specs.Refusals.{_refuses_or_, stepOf, isPassed}
-use Rattle.reader.specs.Request.{methodAt, methodIn, isOther, cseqOf, isTwice, methodOf, uriOf, isVersion, headRefusal, requestRefusal, refusedRequest, AimIs, RequestIs}
-use Rattle.reader.specs.declared.refusals.Refusal.{Refusal}
-use Rattle.reader.specs.declared.refusals.Refusal.the-variants.{Passed, Layout, CSeq, RequestLine, HeaderTwice, Version, Require, UriLong, UriForm, QueryUntaken, QueryForm, PidsClash, PidsUnstreamed, NoStream}
-use Rattle.reader.specs.declared.refusals.Refusal.the-variants.{Method as OtherMethod, Value as Outside}
-use Rattle.reader.specs.declared.aim.Method.{Method}
-use Rattle.reader.specs.declared.aim.Method.the-variants.{Other}
-use Rattle.reader.specs.declared.aim.Aim.{Aim}
+use Rattle.aim.specs.Query.{nowhere}
+use Rattle.aim.specs.Refusals.{_refuses_or_, stepOf, isPassed}
+use Rattle.reader.specs.Request.{methodAt, methodIn, isOther, cseqOf, isTwice, methodOf, uriOf, isVersion, headRefusal, requestRefusal, refusedRequest, RequestIs}
+use Rattle.aim.specs.Aim.{AimIs}
+use Rattle.aim.specs.declared.refusals.Refusal.{Refusal}
+use Rattle.aim.specs.declared.refusals.Refusal.the-variants.{Passed, Layout, CSeq, RequestLine, HeaderTwice, Version, Require, UriLong, UriForm, QueryUntaken, QueryForm, PidsClash, PidsUnstreamed, NoStream}
+use Rattle.aim.specs.declared.refusals.Refusal.the-variants.{Method as OtherMethod, Value as Outside}
+use Rattle.aim.specs.declared.Method.{Method}
+use Rattle.aim.specs.declared.Method.the-variants.{Other}
+use Rattle.aim.specs.declared.Aim.{Aim}
 use Rattle.reader.specs.declared.Request.{Request}
 use Rattle.reader.specs.declared.fields.Session.{Session}
 use Rattle.reader.specs.declared.fields.Session.the-variants.{Absent}

@@ -19,11 +19,12 @@ use Rattle.target.specs.Line.{PartsAre}
 use Rattle.target.specs.declared.Parts.{Parts}
 use Rattle.reader.specs.Fields.{sessionIn}
 use Rattle.target.specs.Uri.{streamOf, hostOf}
-use Rattle.reader.specs.Query.{nowhere}
-use Rattle.reader.specs.Refusals.{isPassed}
-use Rattle.reader.specs.Request.{cseqOf, isTwice, isVersion, methodOf, uriOf, queryIn, textIn, codeIn, requestRefusal}
-use Rattle.reader.specs.declared.aim.Method.{Method}
-use Rattle.reader.specs.declared.aim.Aim.{Aim}
+use Rattle.aim.specs.Query.{nowhere}
+use Rattle.aim.specs.Refusals.{isPassed}
+use Rattle.reader.specs.Request.{cseqOf, isTwice, isVersion, methodOf, uriOf, requestRefusal}
+use Rattle.aim.specs.Aim.{queryIn, textIn, codeIn}
+use Rattle.aim.specs.declared.Method.{Method}
+use Rattle.aim.specs.declared.Aim.{Aim}
 use Rattle.reader.specs.declared.fields.Session.{Session}
 use Rattle.reader.specs.declared.fields.Session.the-variants.{Absent}
 

@@ -1,5 +1,3 @@
 pub mod Fields
-pub mod Heads
-pub mod Query
-pub mod Refusals
 pub mod Request
+pub mod Heads

@@ -1,22 +1,16 @@
 // Reads a request: any bytes in, and out comes what they ask, or the first of document 01's steps 1 to 10 that refuses them.
-mod aim;
 mod fields;
-mod query;
-mod refusals;
 
-pub use aim::Aim;
-pub use aim::Method;
 pub use fields::Session;
 pub use fields::Transport;
-pub use query::Query;
-pub use refusals::Refusal;
-pub use refusals::status;
-pub use refusals::step;
 ghost use mathlib.Core.Path.{_≡_};
 ghost use Prim.Native.Nat.{_≤_};
 ghost use lib.ListN.{length};
 ghost use Rattle.reader.specs.Heads.{cseqAt, sessionAt, areTwice, Begun, Headed, Passing};
 ghost use Rattle.reader.specs.Request.{methodIn, isOther, refusedRequest, RequestIs};
+use aim::Aim;
+use aim::Method;
+use aim::Refusal;
 use digits::Read;
 use digits::Zeros;
 use lines::Lines;
@@ -178,7 +172,7 @@ fn read_method(s: &[u8], l: Lines, cseq: Read, parts: Parts, frontends: u8) -> R
     let to = parts.second;
     let a = aim::read_aim(method, &line[from..to], frontends);
     let refusal = a.refusal;
-    if !refusals::is_passed(refusal) {
+    if !aim::is_passed(refusal) {
         return refuse(refusal, cseq, Span { start: 0, end: 0 });
     }
     passed(s, l, cseq, method, from, a, frontends)

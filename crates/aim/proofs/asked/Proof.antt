@@ -1,10 +1,10 @@
--- `reader::aim::asked` meets its contract. Assumes nothing.
+-- `aim::asked` meets its contract. Assumes nothing.
 use mathlib.Core.Path.{refl, _∙_, sym}
 use borrow.Author.Needs.{needs}
 use borrow.Author.Tests.{not-true, not-false}
-use Rattle.reader.proofs.AimLaws.{aim-refused, query-held, asked-untaken, asked-broken, asked-verdict, asked-passed}
-use Rattle.reader.proofs.aim.asked.Statement.{statement}
-use Rattle.reader.proofs.aim.asked.Tie as tie
+use Rattle.aim.proofs.AimLaws.{aim-refused, query-held, asked-untaken, asked-broken, asked-verdict, asked-passed}
+use Rattle.aim.proofs.asked.Statement.{statement}
+use Rattle.aim.proofs.asked.Tie as tie
 
 returns : tie.Need-returns
 returns c =

@@ -14,15 +14,15 @@ use Rattle.scan.proofs.Bools.{never, by-cases}
 use Rattle.scan.proofs.Parts.{holds-length}
 use Rattle.target.specs.Uri.{isUri, hasQuery, queryOf, UriIs}
 use Rattle.target.specs.declared.Uri.{Uri}
-use Rattle.reader.proofs.QueryLaws.{all-same}
-use Rattle.reader.specs.Query.{isQuery, areWithin, textOf, nowhere, QueryIs}
-use Rattle.reader.specs.Refusals.{_refuses_or_, isPassed}
-use Rattle.reader.specs.Request.{takesNoQuery, isNumber, hasStream, lacksStream, judged, uriRefusal, Reached, refusedAim, verdictOf, isSpan, AimIs}
-use Rattle.reader.specs.declared.refusals.Refusal.{Refusal}
-use Rattle.reader.specs.declared.refusals.Refusal.the-variants.{Passed, UriLong, UriForm, QueryUntaken, QueryForm, NoStream}
-use Rattle.reader.specs.declared.aim.Method.{Method}
-use Rattle.reader.specs.declared.aim.Aim.{Aim}
-use Rattle.reader.specs.declared.query.Query.{Query}
+use Rattle.aim.proofs.QueryLaws.{all-same}
+use Rattle.aim.specs.Query.{isQuery, areWithin, textOf, nowhere, QueryIs}
+use Rattle.aim.specs.Refusals.{_refuses_or_, isPassed}
+use Rattle.aim.specs.Aim.{takesNoQuery, isNumber, hasStream, lacksStream, judged, uriRefusal, Reached, refusedAim, verdictOf, isSpan, AimIs}
+use Rattle.aim.specs.declared.refusals.Refusal.{Refusal}
+use Rattle.aim.specs.declared.refusals.Refusal.the-variants.{Passed, UriLong, UriForm, QueryUntaken, QueryForm, NoStream}
+use Rattle.aim.specs.declared.Method.{Method}
+use Rattle.aim.specs.declared.Aim.{Aim}
+use Rattle.aim.specs.declared.query.Query.{Query}
 
 -- a refused URI
 pub aim-refused : {frontends : ℕ} {method : Method} {u : List ℕ} {r : Aim} {x : Refusal} → isPassed x ≡ false → x ≡ uriRefusal frontends method u → r ≡ refusedAim x → AimIs frontends method u r

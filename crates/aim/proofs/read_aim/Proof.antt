@@ -1,10 +1,10 @@
--- `reader::aim::read_aim` meets its contract. Assumes nothing.
+-- `aim::read_aim` meets its contract. Assumes nothing.
 use mathlib.Core.Path.{refl}
 use borrow.Author.Needs.{needs}
 use borrow.Author.Tests.{not-true, not-false}
-use Rattle.reader.proofs.AimLaws.{aim-refused, uri-long, uri-form}
-use Rattle.reader.proofs.aim.read_aim.Statement.{statement}
-use Rattle.reader.proofs.aim.read_aim.Tie as tie
+use Rattle.aim.proofs.AimLaws.{aim-refused, uri-long, uri-form}
+use Rattle.aim.proofs.read_aim.Statement.{statement}
+use Rattle.aim.proofs.read_aim.Tie as tie
 
 returns-2 : tie.Need-returns-2
 returns-2 c =

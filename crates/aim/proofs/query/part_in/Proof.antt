@@ -1,8 +1,8 @@
--- `reader::query::part_in` meets its contract. Assumes nothing.
+-- `aim::query::part_in` meets its contract. Assumes nothing.
 use borrow.Author.Needs.{needs}
-use Rattle.reader.proofs.FieldLaws.{part-whole, part-broken}
-use Rattle.reader.proofs.query.part_in.Statement.{statement}
-use Rattle.reader.proofs.query.part_in.Tie as tie
+use Rattle.aim.proofs.QueryLaws.{part-whole, part-broken}
+use Rattle.aim.proofs.query.part_in.Statement.{statement}
+use Rattle.aim.proofs.query.part_in.Tie as tie
 
 pub part-in-spec : {M : Type 1} → statement M
 part-in-spec =

@@ -1,7 +1,7 @@
--- `reader::aim::verdict` meets its contract. Assumes nothing.
+-- `aim::verdict` meets its contract. Assumes nothing.
 use borrow.Author.Needs.{needs}
-use Rattle.reader.proofs.aim.verdict.Statement.{statement}
-use Rattle.reader.proofs.aim.verdict.Tie as tie
+use Rattle.aim.proofs.verdict.Statement.{statement}
+use Rattle.aim.proofs.verdict.Tie as tie
 
 returns : tie.Need-returns
 returns c =

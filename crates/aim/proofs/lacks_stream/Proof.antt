@@ -1,8 +1,8 @@
 use borrow.Author.Needs.{needs}
-use Rattle.reader.proofs.aim.lacks_stream.Statement.{statement}
-use Rattle.reader.proofs.aim.lacks_stream.Tie as tie
-use Rattle.reader.proofs.aim.lacks_stream.Reads as reads
-use Rattle.reader.proofs.aim.lacks_stream.Lts as lts
+use Rattle.aim.proofs.lacks_stream.Statement.{statement}
+use Rattle.aim.proofs.lacks_stream.Tie as tie
+use Rattle.aim.proofs.lacks_stream.Reads as reads
+use Rattle.aim.proofs.lacks_stream.Lts as lts
 
 -- src/aim.rt:63:28
 enum-told : tie.Need-enum-told

@@ -1,9 +1,9 @@
--- `reader::aim::unasked` meets its contract. Assumes nothing.
+-- `aim::unasked` meets its contract. Assumes nothing.
 use borrow.Author.Needs.{needs}
 use mathlib.Core.Path.{refl}
-use Rattle.reader.proofs.AimLaws.{aim-refused, unasked-lacks, unasked-passed}
-use Rattle.reader.proofs.aim.unasked.Statement.{statement}
-use Rattle.reader.proofs.aim.unasked.Tie as tie
+use Rattle.aim.proofs.AimLaws.{aim-refused, unasked-lacks, unasked-passed}
+use Rattle.aim.proofs.unasked.Statement.{statement}
+use Rattle.aim.proofs.unasked.Tie as tie
 
 returns : tie.Need-returns
 returns c =

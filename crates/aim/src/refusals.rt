@@ -1,6 +1,6 @@
 // Why a request is refused, in document 01's order: each case with its step and its status.
 ghost use mathlib.Core.Path.{_≡_};
-ghost use Rattle.reader.specs.Refusals.{stepOf, statusOf, isPassed};
+ghost use Rattle.aim.specs.Refusals.{stepOf, statusOf, isPassed};
 
 pub enum Refusal {
     // Nothing of steps 1 to 10 refuses the request.
@@ -74,7 +74,8 @@ pub fn status(refusal: Refusal) -> u16
     }
 }
 
-pub(crate) fn is_passed(refusal: Refusal) -> bool
+// Whether nothing of steps 1 to 10 refuses the request.
+pub fn is_passed(refusal: Refusal) -> bool
     ensures { λ r. ⌜ r ≡ isPassed refusal ⌝ }
 {
     match refusal {

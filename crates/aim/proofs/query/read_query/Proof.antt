@@ -1,11 +1,11 @@
--- `reader::query::read_query` meets its contract. Invariant: the parts before p are read. Assumes nothing.
+-- `aim::query::read_query` meets its contract. Invariant: the parts before p are read. Assumes nothing.
 use Prim.Native.Nat.{_+_, _-_, _<_}
 use native.Mathlib.Omega.{arith}
 use lib.ListN.{length}
 use borrow.Author.Needs.{needs}
-use Rattle.reader.proofs.QueryLaws.{value-inside, Asking, asking-start, asking-unknown, asking-twice, asking-more, asking-end, query-broken}
-use Rattle.reader.proofs.query.read_query.Statement.{statement}
-use Rattle.reader.proofs.query.read_query.Tie as tie
+use Rattle.aim.proofs.QueryLaws.{value-inside, Asking, asking-start, asking-unknown, asking-twice, asking-more, asking-end, query-broken}
+use Rattle.aim.proofs.query.read_query.Statement.{statement}
+use Rattle.aim.proofs.query.read_query.Tie as tie
 
 abbrev Inv-loop : tie.InvT-loop
 Inv-loop q frontends codes₀ spans₀ within₀ p₀ codes spans within p = Asking frontends q p codes spans within

@@ -1,12 +1,16 @@
 // What a request's URI asks: steps 7 to 10. Its bytes are looked at as `target` and `query` say, and no byte is copied.
+mod query;
+mod refusals;
+
+pub use query::Query;
+pub use refusals::Refusal;
+pub use refusals::is_passed;
+pub use refusals::status;
+pub use refusals::step;
 ghost use mathlib.Core.Path.{_≡_};
 ghost use mathlib.Core.Bool.{true, false};
 ghost use lib.ListN.{length};
-ghost use Rattle.reader.specs.Request.{takesNoQuery, lacksStream, judged, isSpan, verdictOf, Reached, refusedAim, AimIs};
-use crate::query;
-use crate::query::Query;
-use crate::refusals::Refusal;
-use crate::refusals::is_passed;
+ghost use Rattle.aim.specs.Aim.{takesNoQuery, lacksStream, judged, isSpan, verdictOf, Reached, refusedAim, AimIs};
 use scan::Span;
 use target::Uri;
 

@@ -9,7 +9,7 @@ use lib.Dec.{ltb, eqb}
 use lib.ListN.{length, drop, getD, set, replicate, length-set}
 use lib.Seq.{getD-set-same, getD-set-other}
 use borrow.Author.Tests.{ltb-true, lt-ltb, le-ltb, eq-eqb, ne-eqb}
-use Rattle.scan.specs.Lists.{all, part, Holds, FirstFrom}
+use Rattle.scan.specs.Lists.{all, part, Holds, FirstOf, FirstFrom}
 use Rattle.scan.specs.Cut.{is, cutFrom}
 use Rattle.scan.specs.declared.Span.{Span}
 use Rattle.scan.proofs.Bools.{never, by-test, by-cases}
@@ -19,9 +19,18 @@ use Rattle.digits.specs.Reading.{isValue}
 use Rattle.digits.specs.declared.Read.{Read}
 use Rattle.tuning.specs.Attributes.{attributeOf}
 use Rattle.tuning.specs.Values.{valueOf}
-use Rattle.reader.specs.Query.{isPart, equals, valueIn, attributeIn, isAmong, areParts, isQuery, isWithin, areWithin, codeFrom, codeAmong, codeOf, textAmong, textOf, PartIs, nowhere, brokenQuery, QueryIs}
-use Rattle.reader.specs.declared.query.Part.{Part}
-use Rattle.reader.specs.declared.query.Query.{Query}
+use Rattle.aim.specs.Query.{isPart, equals, valueIn, attributeIn, isAmong, areParts, isQuery, isWithin, areWithin, codeFrom, codeAmong, codeOf, textAmong, textOf, PartIs, nowhere, brokenQuery, QueryIs}
+use Rattle.aim.specs.declared.query.Part.{Part}
+use Rattle.aim.specs.declared.query.Query.{Query}
+
+-- one part of a query
+pub part-whole : (p : List ℕ) {k a : ℕ} → FirstOf (is 61) p k → k + 1 < length p → a ≡ attributeOf (part 0 k p) → PartIs p (record { attribute = a; value = k + 1 })
+unfolding attributeIn
+part-whole p {k} f h e = record { attribute = rw (← f .is, lt-ltb (k + 1) (length p) h) e; value = ap (λ j. j + 1) (f .is) }
+
+pub part-broken : (p : List ℕ) {k : ℕ} → FirstOf (is 61) p k → length p ≤ k + 1 → PartIs p (record { attribute = 13; value = k + 1 })
+unfolding attributeIn
+part-broken p {k} f h = record { attribute = rw (← f .is, le-ltb (k + 1) (length p) h); value = ap (λ j. j + 1) (f .is) }
 
 -- an attribute below 13 is named by a part with a value
 is-part : (p : List ℕ) → attributeIn p < 13 → isPart p ≡ true

@@ -13,8 +13,8 @@ use Rattle.digits.specs.declared.Read.{Read}
 use Rattle.digits.specs.declared.Read.the-variants.{Value, Nothing}
 use Rattle.tuning.specs.Attributes.{attributeOf}
 use Rattle.tuning.specs.Values.{valueOf}
-use Rattle.reader.specs.declared.query.Part.{Part}
-use Rattle.reader.specs.declared.query.Query.{Query}
+use Rattle.aim.specs.declared.query.Part.{Part}
+use Rattle.aim.specs.declared.query.Query.{Query}
 
 abbrev pub partsOf : List ℕ → List (List ℕ)
 partsOf q = cut 38 q

@@ -1,0 +1,3 @@
+pub mod Query
+pub mod Refusals
+pub mod Aim
