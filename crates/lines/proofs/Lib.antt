@@ -1,3 +1,4 @@
 pub mod HeaderLaws
 pub mod LineLaws
 pub mod SeenLaws
+pub mod Theorems

@@ -1,3 +1,4 @@
 pub mod Fields
 pub mod Request
 pub mod Heads
+pub mod Samples

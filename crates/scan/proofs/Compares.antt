@@ -3,13 +3,14 @@ use mathlib.Core.Path.{_≡_, refl, ap, ap₂, _∙_, sym}
 use mathlib.Core.Bool.{Bool, true, false, _&&_, and-false}
 use mathlib.Core.List.{List, [], _∷_, map}
 use Prim.Native.Nat.{ℕ, suc, _+_, _≤_, _<_}
+use native.Mathlib.Decide.{ℕ-discrete}
 use native.Mathlib.Omega.{arith}
 use lib.Dec.{eqb, leb}
 use lib.ListN.{length, getD, drop}
-use borrow.Author.Tests.{eq-eqb, eqb-true, leb-true}
+use borrow.Author.Tests.{eq-eqb, ne-eqb, eqb-true, leb-true}
 use Rattle.scan.specs.Classes.{isCapital}
 use Rattle.scan.specs.Compare.{alikeBy}
-use Rattle.scan.proofs.Bools.{never, and-both}
+use Rattle.scan.proofs.Bools.{never, and-both, by-cases}
 use Rattle.scan.proofs.Loops.{turn, end}
 
 -- the small form of a capital letter is a byte
@@ -71,3 +72,13 @@ module _ (f : ℕ → ℕ) where
       let h : f x ≡ f y = cc in
       let r : map f s ≡ map f t = cc in
       rw (h, alike-by s t u r)
+
+  swapped : (x y : ℕ) → eqb x y ≡ eqb y x
+  swapped x y = by-cases (ℕ-discrete x y) (λ e. rw (eq-eqb x y e, eq-eqb y x (sym e))) (λ n. rw (ne-eqb x y n, ne-eqb y x (λ e. n (sym e))))
+
+  -- which text is compared with which does not matter
+  pub alike-swapped : (s t : List ℕ) → alikeBy f s t ≡ alikeBy f t s
+  alike-swapped [] [] = refl
+  alike-swapped [] (y ∷ t) = refl
+  alike-swapped (x ∷ s) [] = refl
+  alike-swapped (x ∷ s) (y ∷ t) = ap₂ (λ a b. a && b) (swapped (f x) (f y)) (alike-swapped s t)

@@ -1,7 +1,7 @@
 -- Loops over the places of a list: what is still to look at from place i on. Each kind of loop has a record for its invariant, and a
 -- law for its start, for a turn and for each way out; a turn's test is told as the equation that the test's contract gives.
 -- Assumes nothing.
-use mathlib.Core.Path.{_≡_, refl, ap, _∙_, sym}
+use mathlib.Core.Path.{_≡_, refl, ap, ap₂, _∙_, sym}
 use mathlib.Core.Bool.{Bool, true, false, cond}
 use mathlib.Core.List.{List, [], _∷_}
 use Prim.Native.Nat.{ℕ, suc, _+_, _-_, _≤_, _<_}
@@ -87,3 +87,8 @@ first-within p (x ∷ l) = step (p x) (first-within p l)
     step : (t : Bool) {m n : ℕ} → m ≤ n → cond t 0 (suc m) ≤ suc n
     step true h = omega arith
     step false h = omega arith
+
+-- only what the test says of each element counts
+pub first-same : {A : Type 0} (p q : A → Bool) → ((x : A) → p x ≡ q x) → (l : List A) → first p l ≡ first q l
+first-same p q e [] = refl
+first-same p q e (x ∷ l) = ap₂ (λ t n. cond t 0 (suc n)) (e x) (first-same p q e l)

@@ -1,0 +1,45 @@
+-- What changes nothing: the case of a header's name, and a header that is not known. Both are said of the lines; only where the values
+-- stand can change. Assumes nothing.
+use mathlib.Core.Path.{_≡_, refl, _∙_}
+use mathlib.Core.Bool.{true, false, not}
+use mathlib.Core.List.{List, [], _∷_, _++_, map}
+use Prim.Native.Nat.{ℕ, _≤_}
+use native.Mathlib.Omega.{arith}
+use borrow.Author.Tests.{ne-eqb}
+use Rattle.scan.specs.Lists.{all}
+use Rattle.scan.specs.Classes.{isText}
+use Rattle.scan.specs.Compare.{small}
+use Rattle.scan.specs.Trim.{isEmpty}
+use Rattle.scan.specs.Cut.{cut}
+use Rattle.scan.specs.Words.{isWord, placeAmong}
+use Rattle.scan.specs.declared.Case.the-variants.{Ignored}
+use Rattle.scan.proofs.Loops.{first-same}
+use Rattle.scan.proofs.Compares.{alike-by, alike-swapped}
+use Rattle.lines.specs.Headers.{known, nameOf, isHeader, headerOf, valueOf, valuesOf}
+use Rattle.lines.specs.Lines.{areHeaders}
+
+-- header lines whose names differ in case alone
+pub data Recased : List (List ℕ) → List (List ℕ) → Type 0 where
+  same : Recased [] []
+  next : {h g : List ℕ} {hs gs : List (List ℕ)} → map small (nameOf h) ≡ map small (nameOf g) → valueOf h ≡ valueOf g → Recased hs gs → Recased (h ∷ hs) (g ∷ gs)
+
+recased-kind : (h g : List ℕ) → map small (nameOf h) ≡ map small (nameOf g) → headerOf h ≡ headerOf g
+unfolding placeAmong
+recased-kind h g e =
+    first-same (isWord Ignored (nameOf h)) (isWord Ignored (nameOf g))
+    (λ w. alike-swapped small w (nameOf h) ∙ alike-by small (nameOf h) (nameOf g) w e ∙ alike-swapped small (nameOf g) w) (cut 32 known)
+
+pub recased-values : (k : ℕ) {hs gs : List (List ℕ)} → Recased hs gs → valuesOf k hs ≡ valuesOf k gs
+recased-values k same = refl
+recased-values k (next {h} {g} n v r) = rw (recased-kind h g n, v, recased-values k r)
+
+-- a header of another name
+pub unknown-values : (k : ℕ) (h : List ℕ) (hs gs : List (List ℕ)) → headerOf h ≡ 5 → k ≤ 4 → valuesOf k (hs ++ (h ∷ gs)) ≡ valuesOf k (hs ++ gs)
+unknown-values k h [] gs e l = rw (ne-eqb (headerOf h) k (λ q. omega arith))
+unknown-values k h (x ∷ hs) gs e l = rw (unknown-values k h hs gs e l)
+
+pub unknown-layout : (h : List ℕ) (hs gs : List (List ℕ)) → isEmpty h ≡ false → all isText h ≡ true → isHeader h ≡ true → all (λ l. not (isEmpty l)) hs ≡ true
+    → areHeaders (hs ++ (h ∷ gs)) ≡ areHeaders (hs ++ gs)
+unknown-layout h [] gs e t i f = rw (e, t, i)
+unknown-layout h ([] ∷ hs) gs e t i f = let z : _≡_ {A = ℕ} 0 1 = cc in absurd (omega arith)
+unknown-layout h ((x ∷ l) ∷ hs) gs e t i f = rw (unknown-layout h hs gs e t i f)
