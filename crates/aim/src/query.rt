@@ -61,7 +61,7 @@ fn code_of(read: Read) -> u32
 }
 
 // Reads a query, on a box with so many frontends.
-pub fn read_query(q: &[u8], frontends: u8) -> Query
+pub(crate) fn read_query(q: &[u8], frontends: u8) -> Query
     ensures { λ r. ⌜ QueryIs frontends (now (q .entry)) r ⌝ }
 {
     let mut codes = [0u32; 13];

@@ -113,6 +113,7 @@ other e n =
       host = λ t. never t refl;
       asked = λ t. never t refl;
       query = λ t. never t refl;
+      place = λ t. never t refl;
       broken = λ t. refl;
     })
 
@@ -198,6 +199,7 @@ module _ {u : List ℕ} {q k : ℕ} (a : Apart u q k) where
               stream = λ t. sym z ∙ p ∙ ap streamIn path-is;
               host = λ t. host-uri;
               asked = λ t. ap (λ i. ltb i (length u)) (a .ends .is);
+              place = λ t. ap (λ i. i + 1) (a .ends .is);
               query = λ t b. record {
                 order = omega (arith, ltb-true q (length u) b);
                 within = omega arith;

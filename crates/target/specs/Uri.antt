@@ -83,5 +83,6 @@ pub record UriIs (u : List ℕ) (r : Uri) : Type 0 where
   pub stream : r .sound ≡ true → Value (r .stream) ≡ streamOf u
   pub host : r .sound ≡ true → Holds u (hostOf u) (r .host .start) (r .host .end)
   pub asked : r .sound ≡ true → r .asked ≡ hasQuery u
+  pub place : r .sound ≡ true → r .query ≡ question u + 1
   pub query : r .sound ≡ true → r .asked ≡ true → Holds u (queryOf u) (r .query) (length u)
   pub broken : r .sound ≡ false → r ≡ record { sound = false; asked = false; stream = 0; host = record { start = 0; end = 0 }; query = 0 }
