@@ -78,22 +78,5 @@ pub fn status(refusal: Refusal) -> u16
 pub fn is_passed(refusal: Refusal) -> bool
     ensures { λ r. ⌜ r ≡ isPassed refusal ⌝ }
 {
-    match refusal {
-        Refusal::Passed => true,
-        Refusal::Layout => false,
-        Refusal::CSeq => false,
-        Refusal::RequestLine => false,
-        Refusal::HeaderTwice => false,
-        Refusal::Version => false,
-        Refusal::Require => false,
-        Refusal::Method => false,
-        Refusal::UriLong => false,
-        Refusal::UriForm => false,
-        Refusal::QueryUntaken => false,
-        Refusal::QueryForm => false,
-        Refusal::PidsClash => false,
-        Refusal::PidsUnstreamed => false,
-        Refusal::Value => false,
-        Refusal::NoStream => false,
-    }
+    step(refusal) == 0
 }

@@ -11,6 +11,7 @@ use Rattle.scan.specs.Text.{text}
 use Rattle.scan.specs.Lists.{part, Holds}
 use Rattle.scan.specs.Compare.{areAlike}
 use Rattle.scan.specs.Words.{placeAmong}
+use Rattle.scan.specs.declared.Span.{Span}
 use Rattle.scan.specs.declared.Case.the-variants.{Counts}
 use Rattle.scan.proofs.Bools.{never}
 use Rattle.scan.proofs.Parts.{part-length, holds-inside}
@@ -84,15 +85,16 @@ module _ {s : List ℕ} {vs : List (List ℕ)} {seen : Seen} (i : SeenIs s vs se
   seen-sent = rw (i .times) (capped (λ k n. ltb 0 k ≡ ltb 0 n) (length vs) refl refl (λ m h. rw (lt-ltb 0 m (omega arith))))
 
 -- REFUSED REQUESTS
-pub request-refused : {frontends : ℕ} {s : List ℕ} {r : Request} {x : Refusal} {c : Read} → isPassed x ≡ false → (headRefusal s ≡ Require → ⊥) → x ≡ requestRefusal frontends s → c ≡ cseqOf s
-    → r ≡ refusedRequest x c nowhere → RequestIs frontends s r
+pub request-refused : {frontends : ℕ} {s : List ℕ} {r : Request} {x : Refusal} {c : Read} {v : Span} → isPassed x ≡ false
+    → (headRefusal s ≡ Require → Holds s (firstValue (valuesOf 3 (headerLines s))) (v .start) (v .end)) → x ≡ requestRefusal frontends s → c ≡ cseqOf s
+    → r ≡ refusedRequest x c v → RequestIs frontends s r
 request-refused {x = x} n k e d q =
     let no-pass : x ≡ Passed → ⊥ = λ y. let z : true ≡ false = ap isPassed (sym y) ∙ n in let w : _≡_ {A = ℕ} 0 1 = cc in omega arith in
     rw q
     (record {
       refusal = e;
       cseq = d;
-      require = λ y. absurd (k y);
+      require = k;
       method = λ y. absurd (no-pass y);
       stream = λ y. absurd (no-pass y);
       host = λ y. absurd (no-pass y);
@@ -108,7 +110,7 @@ request-refused {x = x} n k e d q =
 pub head-refused : {frontends : ℕ} {s : List ℕ} {r : Request} {x : Refusal} {c : Read} → headRefusal s ≡ x → isPassed x ≡ false → (stepOf x ≡ 5 → ⊥) → c ≡ cseqOf s
     → r ≡ refusedRequest x c nowhere → RequestIs frontends s r
 unfolding requestRefusal
-head-refused h n k d q = request-refused n (λ z. k (ap stepOf (sym h ∙ z))) (rw (h, n)) d q
+head-refused h n k d q = request-refused n (λ z. absurd (k (ap stepOf (sym h ∙ z)))) (rw (h, n)) d q
 
 module _ (s : List ℕ) {l : Lines} (i : LinesAre s l) where
   pub request-broken : l .sound ≡ false → (headRefusal s ≡ Layout) × (Nothing ≡ cseqOf s)
@@ -295,23 +297,7 @@ module _ (s : List ℕ) {l : Lines} {c : Read} (b : Begun s l c) where
           pub request-required : {frontends : ℕ} {r : Request} → 0 < getD (l .headers) 3 unseen .times
               → r ≡ refusedRequest Require c (record { start = getD (l .headers) 3 unseen .start; end = getD (l .headers) 3 unseen .end }) → RequestIs frontends s r
           unfolding requestRefusal
-          request-required h q =
-              let no-pass : Require ≡ Passed → ⊥ = λ z. let k : _≡_ {A = ℕ} 5 0 = ap stepOf z in omega arith in
-              rw q
-              (record {
-                refusal = rw (required-is h);
-                cseq = b .cseq-is;
-                require = λ _. seen-of 3 .value;
-                method = λ z. absurd (no-pass z);
-                stream = λ z. absurd (no-pass z);
-                host = λ z. absurd (no-pass z);
-                query = λ z. absurd (no-pass z);
-                codes = λ z. absurd (no-pass z);
-                spans = λ z. absurd (no-pass z);
-                session = λ z. absurd (no-pass z);
-                transport = λ z. absurd (no-pass z);
-                refused = λ _. refl;
-              })
+          request-required h q = request-refused refl (λ _. seen-of 3 .value) (rw (required-is h)) (b .cseq-is) q
 
           pub request-headed : getD (l .headers) 3 unseen .times ≤ 0 → Headed s l c p
           request-headed h =
