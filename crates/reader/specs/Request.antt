@@ -31,13 +31,19 @@ use Rattle.reader.specs.declared.fields.Transport.the-variants.{Other as
 use Rattle.reader.specs.declared.Request.{Request}
 use Rattle.aim.specs.Aim.{uriRefusal, codeIn, textIn, queryIn}
 
+-- the method of a place among the words
 infixr 50 _isMethod_or_
 abbrev _isMethod_or_ : Bool → Method → Method → Method
 _isMethod_or_ true m n = m
 _isMethod_or_ false m n = n
 
 abbrev pub methodAt : ℕ → Method
-methodAt k = eqb k 0 isMethod Options or eqb k 1 isMethod Setup or eqb k 2 isMethod Play or eqb k 3 isMethod Teardown or Other
+methodAt k =
+    eqb k 0 isMethod Options or
+    eqb k 1 isMethod Setup or
+    eqb k 2 isMethod Play or
+    eqb k 3 isMethod Teardown or
+    Other
 
 -- "OPTIONS, SETUP, PLAY, TEARDOWN", case counts
 unfoldable pub methodIn : List ℕ → Method

@@ -1,4 +1,6 @@
-// Reads a request: any bytes in, and out comes what they ask, or the first of document 01's steps 1 to 10 that refuses them.
+// Reads a request: any bytes in, and out comes what they ask, or the first of document 01's steps 1 to 10 that refuses them. One pass over
+// the lines (`lines`) looks at each byte once, and finds every known header; after it only the request line, the URI and the values of
+// CSeq, Session and Transport are looked at again, as `target`, `aim` and `digits` say. No byte is copied.
 mod fields;
 
 pub use fields::Session;
