@@ -1,0 +1,45 @@
+// What the readings write to standard output.
+use digits::Read;
+use scan::Span;
+
+pub(crate) fn text(s: &[u8]) {
+    io::write_all(1, s);
+}
+
+pub(crate) fn number(v: u32) {
+    let mut digits = [0u8; 10];
+    let n = digits::put_decimal(&mut digits, 0, v);
+    if n <= 10 {
+        text(&digits[0..n]);
+    }
+}
+
+pub(crate) fn hex(v: u32) {
+    let mut digits = [0u8; 8];
+    digits::put_hex(&mut digits, 0, v);
+    text(&digits);
+}
+
+pub(crate) fn read(r: Read) {
+    match r {
+        Read::Value(v) => number(v),
+        Read::Nothing => text(b"-"),
+    }
+}
+
+fn bracketed(s: &[u8]) {
+    text(b"[");
+    text(s);
+    text(b"]");
+}
+
+// A part of a text in brackets; nothing where there is no such part.
+pub(crate) fn part(s: &[u8], place: Span) {
+    let a = place.start;
+    let e = place.end;
+    if a <= e {
+        if e <= s.len() {
+            bracketed(&s[a..e]);
+        }
+    }
+}
