@@ -3,6 +3,8 @@
 ghost use mathlib.Core.Path.{_≡_};
 ghost use Prim.Native.Nat.{_+_, _≤_};
 ghost use lib.ListN.{length};
+ghost use Rattle.scan.specs.Words.{placeAmong};
+ghost use Rattle.lines.specs.Headers.{known};
 ghost use Rattle.lines.specs.Laid.{noHeader, HeaderIs, seenAgain, isPairAt, brokenLines, HeadersAre, LinesAre};
 use scan::Case;
 use scan::Class;
@@ -38,6 +40,28 @@ fn no_header() -> Header
     }
 }
 
+// A header's place among the known ones, whose names are compared whole: nearly every other name differs in its length already.
+fn kind_of(name: &[u8]) -> usize
+    ensures { λ r. ⌜ r ≡ placeAmong Case.Ignored known (now (name .entry)) ⌝ }
+{
+    if scan::are_alike(b"CSeq", name, Case::Ignored) {
+        return 0;
+    }
+    if scan::are_alike(b"Session", name, Case::Ignored) {
+        return 1;
+    }
+    if scan::are_alike(b"Transport", name, Case::Ignored) {
+        return 2;
+    }
+    if scan::are_alike(b"Require", name, Case::Ignored) {
+        return 3;
+    }
+    if scan::are_alike(b"Accept", name, Case::Ignored) {
+        return 4;
+    }
+    5
+}
+
 // Reads one header line.
 fn header_in(line: &[u8]) -> Header
     ensures { λ r. ⌜ HeaderIs (now (line .entry)) r ⌝ }
@@ -52,13 +76,8 @@ fn header_in(line: &[u8]) -> Header
     if scan::all_in(&line[0..colon], Class::Name) {
         let after = colon + 1;
         let value = scan::trimmed(&line[after..]);
-        let kind = scan::place_among(
-            b"CSeq Session Transport Require Accept",
-            &line[0..colon],
-            Case::Ignored,
-        );
         Header {
-            kind,
+            kind: kind_of(&line[0..colon]),
             start: after + value.start,
             end: after + value.end,
         }

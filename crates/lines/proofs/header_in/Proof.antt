@@ -7,10 +7,10 @@ use Rattle.lines.proofs.header_in.Tie as tie
 returns-3 : tie.Need-returns-3
 returns-3 c =
     let p = c .before .before in
-    let w = p .before .before .before in
+    let w = p .before .before in
     let y = w .before .before in
     let z = y .before .before .before .before in
-    header-whole _ (z .before .first-in .ensures) (y .before .all-in .ensures) (z .if1 .left) (y .before .before .before .if2 .left) (y .if3 .taken) (p .place-among .ensures)
+    header-whole _ (z .before .first-in .ensures) (y .before .all-in .ensures) (z .if1 .left) (y .before .before .before .if2 .left) (y .if3 .taken) (p .kind-of .ensures)
     (w .trimmed .result) (w .trimmed .ensures)
 
 returns-4 : tie.Need-returns-4
@@ -36,7 +36,6 @@ header-in-spec =
     (λ c. search needs)
     (λ c. search needs)
     (λ c κs. search needs)
-    (λ c. search needs)
     (λ c. search needs)
     (λ c. search needs)
     (λ c. search needs)
