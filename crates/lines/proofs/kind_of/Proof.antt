@@ -3,81 +3,27 @@ use mathlib.Core.Path.{refl}
 use denote.Ref.{now}
 use borrow.Author.Needs.{needs}
 use Rattle.scan.specs.Text.{text}
-use Rattle.scan.specs.Words.{placeAmong}
-use Rattle.lines.proofs.NameLaws.{known-from, met, passed}
+use Rattle.lines.proofs.NameLaws.{Past, past-start, past-hit, past-more, past-end}
 use Rattle.lines.proofs.kind_of.Statement.{statement}
 use Rattle.lines.proofs.kind_of.Tie as tie
+use Rattle.lines.proofs.kind_of.Reads as reads
+use Rattle.lines.proofs.kind_of.Lts as lts
+use Rattle.scan.proofs.are_alike.Reads as tests
 
-returns : tie.Need-returns
-unfolding placeAmong
-returns c =
-    let x1 = c in
-    let s = now (x1 .before .before .before .before .args .name) in
-    met s (text "CSeq") (known-from 1) (x1 .before .are-alike .ensures) (x1 .if1 .taken)
+past-1 : (c : lts.Else1 (tests.Asked, tests.Learnt) reads.Pre reads.Post) → Past (now (c .before .before .before .before .args .name)) 1
+past-1 c = past-more (text "CSeq") (past-start _) refl (c .before .are-alike .ensures) (c .if1 .left)
 
-returns-2 : tie.Need-returns-2
-unfolding placeAmong
-returns-2 c =
-    let x2 = c in
-    let x1 = x2 .before .before .before in
-    let s = now (x1 .before .before .before .before .args .name) in
-    passed s (text "CSeq") (known-from 1) (x1 .before .are-alike .ensures) (x1 .if1 .left)
-    (met s (text "Session") (known-from 2) (x2 .before .are-alike2 .ensures) (x2 .if2 .taken))
+past-2 : (c : lts.Else2 (tests.Asked, tests.Learnt) reads.Pre reads.Post) → Past (now (c .before .before .before .before .before .before .before .args .name)) 2
+past-2 c = past-more (text "Session") (past-1 (c .before .before .before)) refl (c .before .are-alike2 .ensures) (c .if2 .left)
 
-returns-3 : tie.Need-returns-3
-unfolding placeAmong
-returns-3 c =
-    let x3 = c in
-    let x2 = x3 .before .before .before in
-    let x1 = x2 .before .before .before in
-    let s = now (x1 .before .before .before .before .args .name) in
-    passed s (text "CSeq") (known-from 1) (x1 .before .are-alike .ensures) (x1 .if1 .left)
-    (passed s (text "Session") (known-from 2) (x2 .before .are-alike2 .ensures) (x2 .if2 .left)
-    (met s (text "Transport") (known-from 3) (x3 .before .are-alike3 .ensures) (x3 .if3 .taken)))
+past-3 : (c : lts.Else3 (tests.Asked, tests.Learnt) reads.Pre reads.Post) → Past (now (c .before .before .before .before .before .before .before .before .before .before .args .name)) 3
+past-3 c = past-more (text "Transport") (past-2 (c .before .before .before)) refl (c .before .are-alike3 .ensures) (c .if3 .left)
 
-returns-4 : tie.Need-returns-4
-unfolding placeAmong
-returns-4 c =
-    let x4 = c in
-    let x3 = x4 .before .before .before in
-    let x2 = x3 .before .before .before in
-    let x1 = x2 .before .before .before in
-    let s = now (x1 .before .before .before .before .args .name) in
-    passed s (text "CSeq") (known-from 1) (x1 .before .are-alike .ensures) (x1 .if1 .left)
-    (passed s (text "Session") (known-from 2) (x2 .before .are-alike2 .ensures) (x2 .if2 .left)
-    (passed s (text "Transport") (known-from 3) (x3 .before .are-alike3 .ensures) (x3 .if3 .left)
-    (met s (text "Require") (known-from 4) (x4 .before .are-alike4 .ensures) (x4 .if4 .taken))))
+past-4 : (c : lts.Else4 (tests.Asked, tests.Learnt) reads.Pre reads.Post) → Past (now (c .before .before .before .before .before .before .before .before .before .before .before .before .before .args .name)) 4
+past-4 c = past-more (text "Require") (past-3 (c .before .before .before)) refl (c .before .are-alike4 .ensures) (c .if4 .left)
 
-returns-5 : tie.Need-returns-5
-unfolding placeAmong
-returns-5 c =
-    let x5 = c in
-    let x4 = x5 .before .before .before in
-    let x3 = x4 .before .before .before in
-    let x2 = x3 .before .before .before in
-    let x1 = x2 .before .before .before in
-    let s = now (x1 .before .before .before .before .args .name) in
-    passed s (text "CSeq") (known-from 1) (x1 .before .are-alike .ensures) (x1 .if1 .left)
-    (passed s (text "Session") (known-from 2) (x2 .before .are-alike2 .ensures) (x2 .if2 .left)
-    (passed s (text "Transport") (known-from 3) (x3 .before .are-alike3 .ensures) (x3 .if3 .left)
-    (passed s (text "Require") (known-from 4) (x4 .before .are-alike4 .ensures) (x4 .if4 .left)
-    (met s (text "Accept") (known-from 5) (x5 .before .are-alike5 .ensures) (x5 .if5 .taken)))))
-
-returns-6 : tie.Need-returns-6
-unfolding placeAmong
-returns-6 c =
-    let x5 = c in
-    let x4 = x5 .before .before .before in
-    let x3 = x4 .before .before .before in
-    let x2 = x3 .before .before .before in
-    let x1 = x2 .before .before .before in
-    let s = now (x1 .before .before .before .before .args .name) in
-    passed s (text "CSeq") (known-from 1) (x1 .before .are-alike .ensures) (x1 .if1 .left)
-    (passed s (text "Session") (known-from 2) (x2 .before .are-alike2 .ensures) (x2 .if2 .left)
-    (passed s (text "Transport") (known-from 3) (x3 .before .are-alike3 .ensures) (x3 .if3 .left)
-    (passed s (text "Require") (known-from 4) (x4 .before .are-alike4 .ensures) (x4 .if4 .left)
-    (passed s (text "Accept") (known-from 5) (x5 .before .are-alike5 .ensures) (x5 .if5 .left)
-    refl))))
+past-5 : (c : lts.Else5 (tests.Asked, tests.Learnt) reads.Pre reads.Post) → Past (now (c .before .before .before .before .before .before .before .before .before .before .before .before .before .before .before .before .args .name)) 5
+past-5 c = past-more (text "Accept") (past-4 (c .before .before .before)) refl (c .before .are-alike5 .ensures) (c .if5 .left)
 
 pub kind-of-spec : {M : Type 1} → statement M
 kind-of-spec =
@@ -85,17 +31,17 @@ kind-of-spec =
     (tie.spec
     (λ c. search needs)
     (λ c κs. search needs)
-    returns
+    (λ c. past-hit (text "CSeq") (past-start _) refl (c .before .are-alike .ensures) (c .if1 .taken))
     (λ c. search needs)
     (λ c κs. search needs)
-    returns-2
+    (λ c. past-hit (text "Session") (past-1 (c .before .before .before)) refl (c .before .are-alike2 .ensures) (c .if2 .taken))
     (λ c. search needs)
     (λ c κs. search needs)
-    returns-3
+    (λ c. past-hit (text "Transport") (past-2 (c .before .before .before)) refl (c .before .are-alike3 .ensures) (c .if3 .taken))
     (λ c. search needs)
     (λ c κs. search needs)
-    returns-4
+    (λ c. past-hit (text "Require") (past-3 (c .before .before .before)) refl (c .before .are-alike4 .ensures) (c .if4 .taken))
     (λ c. search needs)
     (λ c κs. search needs)
-    returns-5
-    returns-6)
+    (λ c. past-hit (text "Accept") (past-4 (c .before .before .before)) refl (c .before .are-alike5 .ensures) (c .if5 .taken))
+    (λ c. past-end (past-5 c)))
