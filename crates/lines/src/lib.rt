@@ -1,5 +1,6 @@
 // The lines of a request: whether its layout is whole, and where the request line and the values of the known headers stand. One pass
-// looks at each byte once for the layout, at each header's name once or twice, and at its value's outer spaces once more.
+// looks at each byte once for the layout, at each header's name twice more for its form and once where it is as long as a known name, and
+// at its value's outer spaces once more.
 ghost use mathlib.Core.Path.{_≡_};
 ghost use Prim.Native.Nat.{_+_, _≤_};
 ghost use lib.ListN.{length};
