@@ -86,15 +86,17 @@ module _ {s : List ℕ} {vs : List (List ℕ)} {seen : Seen} (i : SeenIs s vs se
 
 -- REFUSED REQUESTS
 pub request-refused : {frontends : ℕ} {s : List ℕ} {r : Request} {x : Refusal} {c : Read} {v : Span} → isPassed x ≡ false
-    → (headRefusal s ≡ Require → Holds s (firstValue (valuesOf 3 (headerLines s))) (v .start) (v .end)) → x ≡ requestRefusal frontends s → c ≡ cseqOf s
+    → (headRefusal s ≡ Require → Holds s (firstValue (valuesOf 3 (headerLines s))) (v .start) (v .end))
+    → ((headRefusal s ≡ Require → ⊥) → v ≡ nowhere) → x ≡ requestRefusal frontends s → c ≡ cseqOf s
     → r ≡ refusedRequest x c v → RequestIs frontends s r
-request-refused {x = x} n k e d q =
+request-refused {x = x} n k u e d q =
     let no-pass : x ≡ Passed → ⊥ = λ y. let z : true ≡ false = ap isPassed (sym y) ∙ n in let w : _≡_ {A = ℕ} 0 1 = cc in omega arith in
     rw q
     (record {
       refusal = e;
       cseq = d;
       require = k;
+      unrequired = u;
       method = λ y. absurd (no-pass y);
       stream = λ y. absurd (no-pass y);
       host = λ y. absurd (no-pass y);
@@ -110,7 +112,7 @@ request-refused {x = x} n k e d q =
 pub head-refused : {frontends : ℕ} {s : List ℕ} {r : Request} {x : Refusal} {c : Read} → headRefusal s ≡ x → isPassed x ≡ false → (stepOf x ≡ 5 → ⊥) → c ≡ cseqOf s
     → r ≡ refusedRequest x c nowhere → RequestIs frontends s r
 unfolding requestRefusal
-head-refused h n k d q = request-refused n (λ z. absurd (k (ap stepOf (sym h ∙ z)))) (rw (h, n)) d q
+head-refused h n k d q = request-refused n (λ z. absurd (k (ap stepOf (sym h ∙ z)))) (λ _. refl) (rw (h, n)) d q
 
 module _ (s : List ℕ) {l : Lines} (i : LinesAre s l) where
   pub request-broken : l .sound ≡ false → (headRefusal s ≡ Layout) × (Nothing ≡ cseqOf s)
@@ -150,7 +152,8 @@ request-passed {s = s} {a = a} p e q =
     record {
       refusal = p .refusal;
       cseq = p .cseq-is;
-      require = λ z. absurd (unrequired z);
+      require = λ z. absurd (not-required z);
+      unrequired = λ _. refl;
       method = λ _. p .method-is;
       stream = λ _. p .stream;
       host = λ _. p .host;
@@ -162,8 +165,8 @@ request-passed {s = s} {a = a} p e q =
       refused = λ n. never (p .pass) n;
     }
   where
-    unrequired : headRefusal s ≡ Require → ⊥
-    unrequired z = let w : isPassed (a .refusal) ≡ false = ap isPassed (p .refusal) ∙ rw z in never (p .pass) w
+    not-required : headRefusal s ≡ Require → ⊥
+    not-required z = let w : isPassed (a .refusal) ≡ false = ap isPassed (p .refusal) ∙ rw z in never (p .pass) w
 
 -- a request past steps 3 to 5: its method, and its URI's place
 passed-is : (x : Refusal) → isPassed x ≡ true → x ≡ Passed
@@ -297,7 +300,7 @@ module _ (s : List ℕ) {l : Lines} {c : Read} (b : Begun s l c) where
           pub request-required : {frontends : ℕ} {r : Request} → 0 < getD (l .headers) 3 unseen .times
               → r ≡ refusedRequest Require c (record { start = getD (l .headers) 3 unseen .start; end = getD (l .headers) 3 unseen .end }) → RequestIs frontends s r
           unfolding requestRefusal
-          request-required h q = request-refused refl (λ _. seen-of 3 .value) (rw (required-is h)) (b .cseq-is) q
+          request-required h q = request-refused refl (λ _. seen-of 3 .value) (λ n. absurd (n (required-is h))) (rw (required-is h)) (b .cseq-is) q
 
           pub request-headed : getD (l .headers) 3 unseen .times ≤ 0 → Headed s l c p
           request-headed h =

@@ -110,6 +110,7 @@ pub record RequestIs (frontends : ℕ) (s : List ℕ) (r : Request) : Type 0 whe
   pub refusal : r .refusal ≡ requestRefusal frontends s
   pub cseq : r .cseq ≡ cseqOf s
   pub require : headRefusal s ≡ Require → Holds s (firstValue (valuesOf 3 (headerLines s))) (r .require .start) (r .require .end)
+  pub unrequired : (headRefusal s ≡ Require → ⊥) → r .require ≡ nowhere
   pub method : r .refusal ≡ Passed → r .method ≡ methodOf s
   pub stream : r .refusal ≡ Passed → Number (r .stream) ≡ streamOf (uriOf s)
   pub host : r .refusal ≡ Passed → Holds s (hostOf (uriOf s)) (r .host .start) (r .host .end)

@@ -23,6 +23,7 @@ returns-2 c =
     let e = method-read 0 _ h (m .method-in .ensures) in
     request-refused (sym (c .before .before .is-passed .ensures) ∙ not-true _ (c .before .if2 .taken))
     (λ z. absurd (request-unrequired _ _ h e (o .is-other .ensures) (a .before .before .if1 .left) (a .read-aim .ensures) z))
+    (λ _. refl)
     (request-aimed _ _ h e (o .is-other .ensures) (a .before .before .if1 .left) (a .read-aim .ensures))
     (h .begun .cseq-is)
     (c .refuse2 .ensures)
