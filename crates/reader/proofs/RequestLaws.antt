@@ -132,8 +132,8 @@ module _ (s : List ℕ) {l : Lines} (i : LinesAre s l) where
     request-uncounted e n = rw (laid, ap isValue (sym e) ∙ n)
 
 -- WHAT A REQUEST ASKS
-pub request-passed : {frontends : ℕ} {s : List ℕ} {l : Lines} {c : Read} {m : Method} {from : ℕ} {a : Aim} {x : Session} {y : Transport} → Passing frontends s l c m from a
-    → x ≡ sessionAt s (getD (l .headers) 1 unseen) → y ≡ transportOf (textAt s (getD (l .headers) 2 unseen))
+pub request-passed : {frontends : ℕ} {s : List ℕ} {l : Lines} {c : Read} {m : Method} {from : ℕ} {a : Aim} {x : Session} {y : Transport} {v : Span} → Passing frontends s l c m from a
+    → x ≡ sessionAt s (getD (l .headers) 1 unseen) → y ≡ transportOf (textAt s (getD (l .headers) 2 unseen)) → v ≡ nowhere
     → RequestIs frontends s (record {
       codes = a .codes;
       spans = a .spans;
@@ -143,17 +143,17 @@ pub request-passed : {frontends : ℕ} {s : List ℕ} {l : Lines} {c : Read} {m 
       stream = a .stream;
       host = record { start = from + a .host .start; end = from + a .host .end };
       query = record { start = from + a .query .start; end = from + a .query .end };
-      require = nowhere;
+      require = v;
       session = x;
       transport = y;
     })
 unfolding requestRefusal
-request-passed {s = s} {a = a} p e q =
+request-passed {s = s} {a = a} p e q u =
     record {
       refusal = p .refusal;
       cseq = p .cseq-is;
       require = λ z. absurd (not-required z);
-      unrequired = λ _. refl;
+      unrequired = λ _. u;
       method = λ _. p .method-is;
       stream = λ _. p .stream;
       host = λ _. p .host;
