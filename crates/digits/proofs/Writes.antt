@@ -1,5 +1,5 @@
 -- Text put into a buffer: the loops that store it, and that two puts in a row are one put of the joined text. Assumes nothing.
-use mathlib.Core.Path.{_≡_, refl, sym, ap, _∙_}
+use mathlib.Core.Path.{_≡_, refl, sym, ap, subst, _∙_}
 use mathlib.Core.List.{List, [], _∷_, _++_, append-assoc, append-nil}
 use Prim.Native.Nat.{ℕ, suc, _+_, _-_, _≤_, _<_, min}
 use native.Mathlib.Decide.{decLt}
@@ -22,7 +22,7 @@ written-past b at t h =
     let n : length b - at ≡ 0 = omega arith in
     rw (take-all at b h, n, drop-of-length-le b {i = at + length t} (omega arith)) (append-nil b)
 
-written-none : (b : List ℕ) (at : ℕ) → written b at [] ≡ b
+pub written-none : (b : List ℕ) (at : ℕ) → written b at [] ≡ b
 unfolding written
 written-none b at = rw (take-nil, add-zero) (take-append-drop at b)
 
@@ -62,6 +62,11 @@ written-fits b at t h = rw (take-all (length b - at) t (omega arith))
 
 pub wrote-kept : {b d t : List ℕ} {at next : ℕ} → Wrote b at t d next → length d ≡ length b
 wrote-kept {b} {d} {t} {at} w = ap length (w .is) ∙ written-length b at t
+
+-- a text written behind another is one with it, wherever the buffer ends
+pub written-then : (b : List ℕ) (at : ℕ) (t u : List ℕ) → written (written b at t) (at + length t) u ≡ written b at (t ++ u)
+written-then b at t u =
+    written-sets (written b at t) (at + length t) u ∙ ap (λ d. sets d (at + length t) u) (written-sets b at t) ∙ sets-then b at t u ∙ sym (written-sets b at (t ++ u))
 
 -- two puts in a row are one put of the joined text
 infixr 60 _then_
@@ -121,3 +126,7 @@ storing-end {b} {t} {d} {at} {i} {n} {next} s e h p =
     (λ l. sym (end (sets d (at + i)) t i (omega arith)))
     in
     record { is = none ∙ s .same; place = omega arith }
+
+-- the same text by another name
+pub wrote-as : {b d t u : List ℕ} {at next : ℕ} → t ≡ u → Wrote b at t d next → Wrote b at u d next
+wrote-as {b} {d} {t} {u} {at} {next} e w = subst (λ x. Wrote b at x d next) e w

@@ -1,0 +1,6 @@
+pub mod DoesLaws
+pub mod Closings
+pub mod Places
+pub mod Laws
+pub mod Runs
+pub mod Keeping

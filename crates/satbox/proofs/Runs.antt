@@ -1,0 +1,34 @@
+-- Operations at each place in turn: what every one of them keeps, all of them keep, and what each changes at its own place only.
+-- Assumes nothing.
+use mathlib.Core.Path.{_≡_, refl, _∙_, ap}
+use mathlib.Core.List.{List, [], _∷_, _++_, map, append-assoc, append-nil}
+use Prim.Native.Nat.{ℕ, zero, suc, _≤_, _<_}
+use native.Mathlib.Omega.{arith}
+use lib.ListN.{length, getD, set, take, drop, length-map, drop-of-length-le}
+use lib.Seq.{set-at, getD-at, take-suc, drop-cons, length-take-le, take-all}
+use Rattle.table.specs.declared.SatBox.{SatBox}
+use Rattle.satbox.specs.Did.{Did, upto}
+
+pub upto-keeps : (f : ℕ → SatBox → Did) (P : SatBox → Type 0) (m : ℕ) → ((i : ℕ) (t : SatBox) → i < m → P t → P (f i t .satbox)) → (t : SatBox) → P t → (n : ℕ) → n ≤ m → P (upto f n t .satbox)
+unfolding upto
+upto-keeps f P m k t p zero h = p
+upto-keeps f P m k t p (suc n) h = k n (upto f n t .satbox) (omega arith) (upto-keeps f P m k t p n (omega arith))
+
+-- a run whose step at i changes only the element at i of a list, by g, maps g over the list
+module _ {A : Type 0} (f : ℕ → SatBox → Did) (part : SatBox → List A) (g : A → A) (d : A) (local : (i : ℕ) (t : SatBox) → part (f i t .satbox) ≡ set (part t) i (g (getD (part t) i d))) (t : SatBox) where
+  map-append : (a b : List A) → map g (a ++ b) ≡ map g a ++ map g b
+  map-append [] b = refl
+  map-append (x ∷ a) b = ap (λ l. g x ∷ l) (map-append a b)
+
+  upto-part : (n : ℕ) → n ≤ length (part t) → part (upto f n t .satbox) ≡ map g (take n (part t)) ++ drop n (part t)
+  unfolding upto
+  upto-part zero h = refl
+  upto-part (suc n) h =
+      let l = part t in
+      let size : length (map g (take n l)) ≡ n = length-map (take n l) g ∙ length-take-le n l (omega arith) in
+      local n (upto f n t .satbox)
+      ∙ rw (upto-part n (omega arith), drop-cons l n d (omega arith), getD-at (map g (take n l)) (getD l n d) (drop (suc n) l) d n size, set-at (map g (take n l)) (getD l n d) (drop (suc n) l) (g (getD l n d)) n size, take-suc l n d (omega arith), map-append (take n l) (getD l n d ∷ []), append-assoc)
+
+  pub upto-map : (n : ℕ) → length (part t) ≡ n → part (upto f n t .satbox) ≡ map g (part t)
+  upto-map n h =
+      upto-part n (omega arith) ∙ rw (take-all n (part t) (omega arith), drop-of-length-le (part t) {i = n} (omega arith)) (append-nil (map g (part t)))

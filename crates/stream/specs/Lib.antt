@@ -1,0 +1,3 @@
+pub mod Values
+pub mod Pids
+pub mod Streams

@@ -1,0 +1,45 @@
+-- One stream's place: empty, newly opened, and as a table may hold it. Assumes nothing.
+use Prim.Native.Nat.{ℕ}
+use mathlib.Core.Bool.{Bool, cond, _&&_}
+use mathlib.Core.List.{[]}
+use lib.Dec.{eqb}
+use lib.ListN.{replicate}
+use Rattle.scan.specs.Classes.{isBetween}
+use Rattle.scan.specs.Lists.{all}
+use Rattle.stream.specs.Values.{noValues, areInRange, goTogether}
+use Rattle.stream.specs.Pids.{isChoice}
+use Rattle.stream.specs.declared.Stream.{Stream}
+
+-- a place where no stream is: "unused places all zeros"
+abbrev pub noStream : Stream
+noStream = record { pids = replicate 32 0; values = noValues; count = 0; frontend = 0; all = 0 }
+
+-- what the logic reads past the last place
+abbrev pub pastStream : Stream
+pastStream = record { pids = []; values = noValues; count = 0; frontend = 0; all = 0 }
+
+-- a new stream before its query is merged: "src: no, 1", "fe: the frontend held", "pids: none", and all else missing
+abbrev pub blank : ℕ → Stream
+blank frontend =
+    record {
+      pids = replicate 32 0;
+      values = record { src = 1; freq = 0; pol = 0; msys = 0; mtype = 0; plts = 0; ro = 0; sr = 0; fec = 0 };
+      count = 0;
+      frontend = frontend;
+      all = 0;
+    }
+
+-- "unused places all zeros"
+unfoldable pub areZero : Stream → Bool
+areZero m =
+    eqb (m .values .src) 0 && eqb (m .values .freq) 0 && eqb (m .values .pol) 0
+    && eqb (m .values .msys) 0 && eqb (m .values .mtype) 0 && eqb (m .values .plts) 0
+    && eqb (m .values .ro) 0 && eqb (m .values .sr) 0 && eqb (m .values .fec) 0
+    && eqb (m .count) 0 && eqb (m .all) 0 && all (λ p. eqb p 0) (m .pids)
+
+-- a place of a well-formed table on a box with so many frontends: unused, or a live stream with "frontends 1 to F; every value in range
+-- and the combination rule holds; PID lists ascending without repeats"
+unfoldable pub isSound : ℕ → Stream → Bool
+isSound frontends m =
+    cond (eqb (m .frontend) 0) (areZero m)
+    (isBetween 1 frontends (m .frontend) && (areInRange (m .values) && (goTogether (m .values) && isChoice m)))

@@ -1,0 +1,56 @@
+-- What stands in a table: open sessions, live streams, and who is on which. Assumes nothing.
+use Prim.Native.Nat.{ℕ, zero, suc}
+use mathlib.Core.Bool.{Bool, not, _&&_}
+use mathlib.Core.List.{List, _∷_}
+use lib.Dec.{eqb}
+use lib.ListN.{getD, set}
+use Rattle.stream.specs.Streams.{pastStream}
+use Rattle.stream.specs.declared.Stream.{Stream}
+use Rattle.table.specs.Counts.{count}
+use Rattle.table.specs.declared.Session.{Session}
+use Rattle.table.specs.declared.SatBox.{SatBox}
+
+-- a place where no session is
+abbrev pub noSession : Session
+noSession = record { number = 0; address = 0; last = 0; port = 0; stream = 0; owner = 0; playing = 0 }
+
+-- a session has a number; an open one has none of 0
+abbrev pub has : ℕ → Session → Bool
+has n s = eqb (s .number) n
+
+abbrev pub isFree : Session → Bool
+isFree s = has 0 s
+
+abbrev pub isOpen : Session → Bool
+isOpen s = not (isFree s)
+
+abbrev pub opens : SatBox → ℕ
+opens t = count isOpen (t .sessions)
+
+abbrev pub sessionAt : SatBox → ℕ → Session
+sessionAt t i = getD (t .sessions) i noSession
+
+-- the stream of an ID; IDs count from 1, and there is none of 0
+abbrev pub streamIn : List Stream → ℕ → Stream
+streamIn ms id = getD (pastStream ∷ ms) id pastStream
+
+abbrev pub streamOf : SatBox → ℕ → Stream
+streamOf t id = streamIn (t .streams) id
+
+-- the streams with another one of an ID
+abbrev pub withStream : ℕ → Stream → List Stream → List Stream
+withStream zero m ms = ms
+withStream (suc k) m ms = set ms k m
+
+abbrev pub isDead : Stream → Bool
+isDead m = eqb (m .frontend) 0
+
+abbrev pub isLive : Stream → Bool
+isLive m = not (isDead m)
+
+-- a session is open and on the stream of an ID; and owns it
+abbrev pub isOn : ℕ → Session → Bool
+isOn id s = isOpen s && eqb (s .stream) id
+
+abbrev pub owns : ℕ → Session → Bool
+owns id s = isOn id s && not (eqb (s .owner) 0)

@@ -1,0 +1,122 @@
+// The box's table: its sessions and streams, what is free in it, and whether it is well formed. A caller may hand in any bytes as a table;
+// `is_well_formed` says whether a box could stand so.
+ghost use mathlib.Core.Path.{_≡_};
+ghost use Rattle.table.specs.Made.{numberOf};
+ghost use Rattle.table.specs.Formed.{areSizes};
+use stream::Stream;
+
+// One session's place: free exactly if its number is 0. The fields fill it without a gap, so that every byte belongs to one.
+#[repr(C)]
+pub struct Session {
+    pub number: u32,
+    pub address: u32,
+    pub last: u32,
+    pub port: u32,
+    pub stream: u8,
+    pub owner: u8,
+    pub playing: u16,
+}
+
+impl Session {
+    // A place where no session is.
+    pub const NONE: Session = Session {
+        number: 0,
+        address: 0,
+        last: 0,
+        port: 0,
+        stream: 0,
+        owner: 0,
+        playing: 0,
+    };
+}
+
+// The box: its places, the journal's size and the bytes held of it, the clock, the sequence of the next record, and its frontends.
+#[repr(C)]
+pub struct SatBox {
+    pub sessions: [Session; 32],
+    pub streams: [Stream; 8],
+    pub size: u32,
+    pub held: u32,
+    pub clock: u32,
+    pub sequence: u16,
+    pub frontends: u16,
+}
+
+// Why a call was refused.
+pub enum Refusal {
+    // The table is not well formed.
+    Table,
+    // The journal's length is not its size.
+    Journal,
+    // The answer buffer is too short.
+    Answer,
+    // The collecting buffer is shorter than the bytes held.
+    Buffer,
+    // There is no such frontend.
+    Frontend,
+    // The frontends or the journal's size are outside their range.
+    Sizes,
+}
+
+// Whether a call was done.
+pub enum Outcome {
+    Done,
+    Refused(Refusal),
+}
+
+// What making a box gives: the box, which no call takes where it was refused.
+pub struct Made {
+    pub satbox: SatBox,
+    pub outcome: Outcome,
+}
+
+impl SatBox {
+    pub const SESSIONS: usize = 32;
+
+    pub const STREAMS: usize = 8;
+
+    pub const MOST_FRONTENDS: u16 = 8;
+
+    pub const LEAST_SIZE: u32 = 1024;
+
+    pub const MOST_SIZE: u32 = 65536;
+
+    // The bytes that a record takes in the journal.
+    pub const RECORD: u32 = 16;
+
+    pub const TIMEOUT: u32 = 60;
+}
+
+fn empty(frontends: u16, size: u32) -> SatBox
+    ensures { λ r. ⌜ r ≡ Rattle.table.specs.Made.fresh frontends size ⌝ }
+{
+    SatBox {
+        sessions: [Session::NONE; 32],
+        streams: [Stream::NONE; 8],
+        size,
+        held: 0,
+        clock: 0,
+        sequence: 0,
+        frontends,
+    }
+}
+
+fn are_sizes(frontends: u16, size: u32) -> bool
+    ensures { λ r. ⌜ r ≡ areSizes frontends size ⌝ }
+{
+    ((1 <= frontends) & (frontends <= 8)) & (((1024 <= size) & (size <= 65536)) & (size % 16 == 0))
+}
+
+// Document 01's number of a refusal.
+pub fn number(refusal: Refusal) -> u8
+    ensures { λ r. ⌜ r ≡ numberOf refusal ⌝ }
+{
+    match refusal {
+        Refusal::Table => 1,
+        Refusal::Journal => 2,
+        Refusal::Answer => 3,
+        Refusal::Buffer => 4,
+        Refusal::Frontend => 5,
+        Refusal::Sizes => 6,
+    }
+}
