@@ -18,9 +18,9 @@ use Rattle.table.specs.declared.SatBox.{SatBox}
 use Rattle.table.proofs.Counts.{Case, is, isnt, case, Same, same, other, sames, cond-keeps}
 use Rattle.table.proofs.Rules.{Seats, Rows, AreProper, WellFormed}
 use Rattle.table.proofs.Changes.{clear, opened, seats-freed, seats-emptied, seated-id, rows-freed, by-id, proper-set, proper-cleared, proper-later, none-proper}
-use Rattle.satbox.specs.Did.{Did, nothing, then, when, noted}
+use Rattle.satbox.specs.Did.{Did, nothing, then, restreamed, reseated, noting}
 use Rattle.satbox.specs.Does.{Roomy, Closable}
-use Rattle.satbox.specs.Closing.{closeOne, closeOn, cascade, freed, free, closing, isExpired, sweepAt, swept, atClock}
+use Rattle.satbox.specs.Closing.{closeOne, closeOn, cascade, free, closing, isExpired, sweepAt, swept, atClock}
 use Rattle.satbox.proofs.DoesLaws.{Fine}
 use Rattle.satbox.proofs.Closings.{closeOne-fine, closing-fine, closable}
 use Rattle.satbox.proofs.Runs.{upto-keeps, upto-map}
@@ -62,7 +62,7 @@ whole-after t d w z seats rows proper =
 
 -- THE CASCADE'S END
 closeOn-place : (id i : ℕ) (t : SatBox) → Case (isOn id (sessionAt t i)) → closeOn id i t .satbox .sessions ≡ set (t .sessions) i (clear id (sessionAt t i))
-unfolding closeOn closeOne noted
+unfolding closeOn closeOne noting reseated
 closeOn-place id i t (is z) = rw z
 closeOn-place id i t (isnt z) = rw z (sym (set-getD (t .sessions) i noSession))
 
@@ -71,7 +71,7 @@ unfolding cascade
 cascade-sessions id t h = upto-map (closeOn id) (λ v. v .sessions) (clear id) noSession (λ i v. closeOn-place id i v (case _)) t 32 h
 
 closeOn-streams : (id i : ℕ) (t : SatBox) → closeOn id i t .satbox .streams ≡ t .streams
-unfolding closeOn closeOne noted
+unfolding closeOn closeOne noting reseated
 closeOn-streams id i t = cond-keeps (λ d. d .satbox .streams ≡ t .streams) (isOn id (sessionAt t i)) (closeOne 3 i t) (nothing t) (λ e. refl) (λ e. refl)
 
 pub cascade-streams : (id : ℕ) (t : SatBox) → cascade id t .satbox .streams ≡ t .streams
@@ -81,7 +81,7 @@ cascade-streams id t = upto-keeps (closeOn id) (λ v. v .streams ≡ t .streams)
 module _ (cause i : ℕ) (t : SatBox) (h : Closable t i) (w : Whole t) where
   -- A SESSION THAT OWNS NOTHING CLOSES
   joiner-whole : sessionAt t i .owner ≡ 0 → Whole (closeOne cause i t .satbox)
-  unfolding closeOne noted
+  unfolding closeOne noting reseated
   joiner-whole own =
       whole-after t (closeOne cause i t) w (closeOne-fine t i h cause)
       (seats-freed (t .sessions) (pastStream ∷ t .streams) (w .formed .seats) i own) (w .formed .rows)
@@ -101,14 +101,14 @@ module _ (cause i : ℕ) (t : SatBox) (h : Closable t i) (w : Whole t) where
     here = let s = sessionAt t i in rw (ne-eqb (s .number) 0 (h .some), eq-eqb (s .stream) (s .stream) refl)
 
     pub owner-sessions : closing cause i t .satbox .sessions ≡ map (clear (sessionAt t i .stream)) (t .sessions)
-    unfolding freed closeOne noted
+    unfolding restreamed closeOne noting reseated
     owner-sessions =
         ap (λ x. x .satbox .sessions) owner-is
         ∙ (cascade-sessions (sessionAt t i .stream) (closeOne cause i t .satbox) (length-set (t .sessions) i noSession ∙ w .places)
         ∙ map-set-same (clear (sessionAt t i .stream)) (t .sessions) i noSession noSession here)
 
     pub owner-streams : closing cause i t .satbox .streams ≡ withStream (sessionAt t i .stream) noStream (t .streams)
-    unfolding freed closeOne noted
+    unfolding restreamed closeOne noting reseated
     owner-streams =
         ap (λ x. x .satbox .streams) owner-is ∙ ap (withStream (sessionAt t i .stream) noStream) (cascade-streams (sessionAt t i .stream) (closeOne cause i t .satbox))
 

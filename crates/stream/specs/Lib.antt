@@ -1,3 +1,4 @@
 pub mod Values
 pub mod Pids
+pub mod Arrays
 pub mod Streams

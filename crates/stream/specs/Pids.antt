@@ -1,10 +1,10 @@
 -- A stream's PIDs: "PID lists ascending without repeats", 32 at most, or "all"; and what pids, delpids and addpids make of them.
 -- Said of ascending lists; how they lie in an array is said apart, below. Assumes nothing.
-use Prim.Native.Nat.{ℕ, suc, _+_, _-_}
+use Prim.Native.Nat.{ℕ, zero, suc, _-_}
 use mathlib.Core.Bool.{Bool, true, false, not, cond, _&&_, _||_}
 use mathlib.Core.List.{List, [], _∷_, _++_}
 use lib.Dec.{eqb, leb, ltb}
-use lib.ListN.{length, take, drop, replicate}
+use lib.ListN.{length, take, replicate}
 use Rattle.scan.specs.Lists.{all}
 use Rattle.scan.specs.Cut.{cut}
 use Rattle.digits.specs.Reading.{readNumber}
@@ -33,49 +33,59 @@ added p (q ∷ l) = cond (ltb p q) (p ∷ q ∷ l) (cond (eqb p q) (q ∷ l) (q 
 -- an ascending list with one PID less; "removing an absent PID changes nothing"
 abbrev pub removed : ℕ → List ℕ → List ℕ
 removed p [] = []
-removed p (q ∷ l) = cond (eqb p q) l (q ∷ removed p l)
+removed p (q ∷ l) = cond (ltb p q) (q ∷ l) (cond (eqb p q) l (q ∷ removed p l))
 
--- "numbers 0 to 8191 joined by commas", in the order in which they stand; a piece that is no such number is passed over
+-- "numbers 0 to 8191 joined by commas": a piece that is such a number, and all of them in the order in which they stand; any other piece is
+-- passed over
+abbrev pub readPid : List ℕ → Read
+readPid piece = readNumber Allowed 5 highest piece
+
 abbrev pub withNumber : Read → List ℕ → List ℕ
 withNumber (Value p) l = p ∷ l
 withNumber Nothing l = l
 
 abbrev pub numbersOf : List (List ℕ) → List ℕ
 numbersOf [] = []
-numbersOf (piece ∷ pieces) = withNumber (readNumber Allowed 5 highest piece) (numbersOf pieces)
+numbersOf (piece ∷ pieces) = withNumber (readPid piece) (numbersOf pieces)
 
-abbrev pub numbersIn : List ℕ → List ℕ
+unfoldable pub numbersIn : List ℕ → List ℕ
 numbersIn text = numbersOf (cut 44 text)
 
+-- one after the other
+abbrev pub obeyed : (ℕ → List ℕ → List ℕ) → List ℕ → List ℕ → List ℕ
+obeyed edit [] l = l
+obeyed edit (p ∷ ps) l = obeyed edit ps (edit p l)
+
 abbrev pub addedAll : List ℕ → List ℕ → List ℕ
-addedAll [] l = l
-addedAll (p ∷ ps) l = addedAll ps (added p l)
+addedAll ps l = obeyed added ps l
 
 abbrev pub removedAll : List ℕ → List ℕ → List ℕ
-removedAll [] l = l
-removedAll (p ∷ ps) l = removedAll ps (removed p l)
+removedAll ps l = obeyed removed ps l
 
 -- a stream's PIDs: all of them, or a list
 pub record Choice : Type 0 where
   pub all : Bool
   pub list : List ℕ
 
--- "all, none, or numbers": 1, 2, and else a list; 0 where pids is not given
-unfoldable pub replaced : ℕ → List ℕ → Choice → Choice
-replaced code text c =
-    cond (eqb code 0) c
-    (cond (eqb code 1) (record { all = true; list = [] })
+-- "all, none, or numbers": 1, 2, and else a list
+unfoldable pub replaced : ℕ → List ℕ → Choice
+replaced code text =
+    cond (eqb code 1) (record { all = true; list = [] })
     (cond (eqb code 2) (record { all = false; list = [] })
-    (record { all = false; list = addedAll (numbersIn text) [] })))
+    (record { all = false; list = addedAll (numbersIn text) [] }))
 
--- "on "all" both change nothing"; code 0 where it is not given
-abbrev pub edited : (List ℕ → List ℕ → List ℕ) → ℕ → List ℕ → Choice → Choice
-edited edit code text c = cond (eqb code 0 || c .all) c (record { all = false; list = edit (numbersIn text) (c .list) })
+-- the numbers of a text obeyed; code 0 where it is not given
+abbrev pub withText : (ℕ → List ℕ → List ℕ) → ℕ → List ℕ → List ℕ → List ℕ
+withText edit code text l = cond (eqb code 0) l (obeyed edit (numbersIn text) l)
 
--- "delpids is applied before addpids"
+-- "on "all" both change nothing"
+abbrev pub edited : (ℕ → List ℕ → List ℕ) → ℕ → List ℕ → Choice → Choice
+edited edit code text c = cond (c .all) c (record { all = false; list = withText edit code text (c .list) })
+
+-- "delpids is applied before addpids". Neither stands beside pids, which replaces: such a query is refused before it is merged.
 unfoldable pub chosen : ℕ → List ℕ → ℕ → List ℕ → ℕ → List ℕ → Choice → Choice
 chosen pids pidsText del delText add addText c =
-    edited addedAll add addText (edited removedAll del delText (replaced pids pidsText c))
+    cond (eqb pids 0) (edited added add addText (edited removed del delText c)) (replaced pids pidsText)
 
 -- "More than 32 PIDs after merging"
 abbrev pub areTooMany : Choice → Bool
@@ -88,10 +98,15 @@ choiceOf m = record { all = not (eqb (m .all) 0); list = take (m .count) (m .pid
 abbrev pub laidOut : List ℕ → List ℕ
 laidOut l = l ++ replicate (most - length l) 0
 
--- a place's array after `count` PIDs, the first of them no lower than n: "0 to 8191", ascending, and then zeros
-abbrev pub isPadded : ℕ → ℕ → List ℕ → Bool
-isPadded count n l = leb count most && (rises n (take count l) && (all (λ p. leb p highest) (take count l) && all (λ p. eqb p 0) (drop count l)))
+abbrev pub isZero : ℕ → Bool
+isZero p = eqb p 0
 
--- "PID lists ascending without repeats": at most 32, no list under "all"
+-- a place's array from some PID on: `count` PIDs, ascending from n, "0 to 8191", and then zeros
+abbrev pub isPadded : ℕ → ℕ → List ℕ → Bool
+isPadded zero n l = all isZero l
+isPadded (suc count) n [] = false
+isPadded (suc count) n (p ∷ l) = leb n p && (leb p highest && isPadded count (suc p) l)
+
+-- "PID lists ascending without repeats": as many as the array holds at most, and no list under "all"
 unfoldable pub isChoice : Stream → Bool
 isChoice m = leb (m .all) 1 && ((eqb (m .all) 0 || eqb (m .count) 0) && isPadded (m .count) 0 (m .pids))

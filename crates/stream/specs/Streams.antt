@@ -6,8 +6,8 @@ use lib.Dec.{eqb}
 use lib.ListN.{replicate}
 use Rattle.scan.specs.Classes.{isBetween}
 use Rattle.scan.specs.Lists.{all}
-use Rattle.stream.specs.Values.{noValues, areInRange, goTogether}
-use Rattle.stream.specs.Pids.{isChoice}
+use Rattle.stream.specs.Values.{noValues, areNone, areInRange, goTogether}
+use Rattle.stream.specs.Pids.{isZero, isChoice}
 use Rattle.stream.specs.declared.Stream.{Stream}
 
 -- a place where no stream is: "unused places all zeros"
@@ -31,11 +31,7 @@ blank frontend =
 
 -- "unused places all zeros"
 unfoldable pub areZero : Stream → Bool
-areZero m =
-    eqb (m .values .src) 0 && eqb (m .values .freq) 0 && eqb (m .values .pol) 0
-    && eqb (m .values .msys) 0 && eqb (m .values .mtype) 0 && eqb (m .values .plts) 0
-    && eqb (m .values .ro) 0 && eqb (m .values .sr) 0 && eqb (m .values .fec) 0
-    && eqb (m .count) 0 && eqb (m .all) 0 && all (λ p. eqb p 0) (m .pids)
+areZero m = areNone (m .values) && (eqb (m .count) 0 && eqb (m .all) 0 && all isZero (m .pids))
 
 -- a place of a well-formed table on a box with so many frontends: unused, or a live stream with "frontends 1 to F; every value in range
 -- and the combination rule holds; PID lists ascending without repeats"

@@ -12,6 +12,13 @@ use Rattle.stream.specs.declared.Values.{Values}
 abbrev pub noValues : Values
 noValues = record { src = 0; freq = 0; pol = 0; msys = 0; mtype = 0; plts = 0; ro = 0; sr = 0; fec = 0 }
 
+-- every one of them is 0
+unfoldable pub areNone : Values → Bool
+areNone v =
+    eqb (v .src) 0 && eqb (v .freq) 0 && eqb (v .pol) 0
+    && eqb (v .msys) 0 && eqb (v .mtype) 0 && eqb (v .plts) 0
+    && eqb (v .ro) 0 && eqb (v .sr) 0 && eqb (v .fec) 0
+
 -- "May be missing in a stream: yes"
 abbrev pub isMissingOr : Bool → ℕ → Bool
 isMissingOr test code = eqb code 0 || test

@@ -1,6 +1,16 @@
 // One stream of the box: its values, its PIDs, and what a query makes of them. All of it is by value; no byte of a request is copied.
 ghost use mathlib.Core.Path.{_≡_};
-ghost use Rattle.stream.specs.Streams.{blank};
+ghost use mathlib.Core.List.{_∷_, _++_};
+ghost use Prim.Native.Nat.{suc, _-_, _≤_, _<_};
+ghost use lib.ListN.{length, take, drop, replicate};
+ghost use Rattle.scan.specs.Lists.{all};
+ghost use Rattle.stream.specs.Values.{areNone, isInRange, areInRange, goTogether, areComplete};
+ghost use Rattle.stream.specs.Streams.{blank, isSound};
+ghost use Rattle.stream.specs.Pids.{isZero, isPadded, added, removed, readPid, withText, laidOut};
+ghost use Rattle.stream.specs.Arrays.{Placed, Front, Held, once};
+use digits::Read;
+use digits::Zeros;
+use scan::Class;
 
 // Document 01's attributes that a stream keeps, as `tuning` codes them: 0 where one is missing.
 #[repr(C)]
@@ -67,5 +77,282 @@ impl Stream {
             frontend,
             all: 0,
         }
+    }
+}
+
+// Whether a code is one that an attribute may have in a stream, by the attribute's place in document 01's table.
+fn is_in_range(attribute: usize, code: u32) -> bool
+    ensures { λ r. ⌜ r ≡ isInRange attribute code ⌝ }
+{
+    match attribute {
+        0 => (1 <= code) & (code <= 4),
+        2 => (code == 0) | ((1070000 <= code) & (code <= 1275000)),
+        3 => code <= 4,
+        4 => code <= 2,
+        5 => code <= 2,
+        6 => code <= 2,
+        7 => code <= 3,
+        8 => (code == 0) | ((1000 <= code) & (code <= 45000)),
+        9 => code <= 9,
+        _ => false,
+    }
+}
+
+fn are_in_range(v: Values) -> bool
+    ensures { λ r. ⌜ r ≡ areInRange v ⌝ }
+{
+    is_in_range(0, v.src)
+        & is_in_range(2, v.freq)
+        & is_in_range(3, v.pol)
+        & is_in_range(4, v.msys)
+        & is_in_range(5, v.mtype)
+        & is_in_range(6, v.plts)
+        & is_in_range(7, v.ro)
+        & is_in_range(8, v.sr)
+        & is_in_range(9, v.fec)
+}
+
+// Document 01's combination rule.
+fn go_together(v: Values) -> bool
+    ensures { λ r. ⌜ r ≡ goTogether v ⌝ }
+{
+    !(v.msys == 1) | (!(v.mtype == 2) & !(v.plts == 1) & (v.ro <= 1) & (v.fec <= 5))
+}
+
+// Whether a tuner can be set: freq, pol, msys, sr and fec are all there.
+pub fn are_complete(v: Values) -> bool
+    ensures { λ r. ⌜ r ≡ areComplete v ⌝ }
+{
+    !(v.freq == 0) & !(v.pol == 0) & !(v.msys == 0) & !(v.sr == 0) & !(v.fec == 0)
+}
+
+// Whether every value is 0, as in a place where no stream is.
+fn are_none(v: Values) -> bool
+    ensures { λ r. ⌜ r ≡ areNone v ⌝ }
+{
+    (v.src == 0)
+        & (v.freq == 0)
+        & (v.pol == 0)
+        & (v.msys == 0)
+        & (v.mtype == 0)
+        & (v.plts == 0)
+        & (v.ro == 0)
+        & (v.sr == 0)
+        & (v.fec == 0)
+}
+
+// Whether an array is all zeros from a place on. It looks at every place, so that many are looked at at once.
+fn are_zero(pids: &[u16], from: usize) -> bool
+    ensures { λ r. ⌜ r ≡ all isZero (drop from (now (pids .entry))) ⌝ }
+{
+    let mut zero = true;
+    let mut i = from;
+    while i < pids.len() {
+        zero = zero & (pids[i] == 0);
+        i += 1;
+    }
+    zero
+}
+
+// Whether an array is `count` PIDs that ascend, and zeros after them.
+fn is_padded(pids: &[u16], count: usize) -> bool
+    ensures { λ r. ⌜ r ≡ isPadded count 0 (now (pids .entry)) ⌝ }
+{
+    if pids.len() < count {
+        return false;
+    }
+    let mut least: u16 = 0;
+    let mut i = 0;
+    while i < count {
+        let p = pids[i];
+        if p < least {
+            return false;
+        }
+        if 8191 < p {
+            return false;
+        }
+        least = p + 1;
+        i += 1;
+    }
+    are_zero(pids, count)
+}
+
+// Whether a place is one that a table may have on a box with so many frontends.
+pub fn is_sound(m: Stream, frontends: u16) -> bool
+    ensures { λ r. ⌜ r ≡ isSound frontends m ⌝ }
+{
+    let v = m.values;
+    if m.frontend == 0 {
+        if !are_none(v) {
+            return false;
+        }
+        if !((m.count == 0) & (m.all == 0)) {
+            return false;
+        }
+        return are_zero(&m.pids, 0);
+    }
+    if frontends < m.frontend as u16 {
+        return false;
+    }
+    if !are_in_range(v) {
+        return false;
+    }
+    if !go_together(v) {
+        return false;
+    }
+    if 1 < m.all {
+        return false;
+    }
+    if !((m.all == 0) | (m.count == 0)) {
+        return false;
+    }
+    is_padded(&m.pids, m.count as usize)
+}
+
+// Where a PID stands in an ascending list, or before which place it belongs.
+enum Place {
+    At(usize),
+    Before(usize),
+}
+
+// The place of a PID among the first `count` of an array.
+fn place_of(list: &[u16], count: usize, p: u16) -> Place
+    requires { ⌜ count ≤ length (now list) ⌝ }
+    ensures { λ r. ⌜ Placed p (take count (now (list .entry))) r ⌝ }
+{
+    let mut i = 0;
+    while i < count {
+        let q = list[i];
+        if p <= q {
+            if p == q {
+                return Place::At(i);
+            }
+            return Place::Before(i);
+        }
+        i += 1;
+    }
+    Place::Before(count)
+}
+
+// Puts a PID before a place of the first `count` of an array. Returns how many there are then: 33 where there is no room.
+fn insert(list: &mut [u16], count: usize, at: usize, p: u16) -> usize
+    requires { ⌜ (at ≤ count) × (count ≤ 32) × (length (now list) ≡ 32) ⌝ }
+    ensures { λ r. ⌜ Held (take at (take count (now (list .entry))) ++ (p ∷ drop at (take count (now (list .entry))))) (now (list .exit)) r ⌝ }
+{
+    if count == 32 {
+        return 33;
+    }
+    let mut carried = p;
+    let mut i = at;
+    while i < count {
+        let q = list[i];
+        list[i] = carried;
+        carried = q;
+        i += 1;
+    }
+    list[count] = carried;
+    count + 1
+}
+
+// Takes the PID at a place out of the first `count` of an array. Returns how many are left.
+fn take_out(list: &mut [u16], count: usize, at: usize) -> usize
+    requires { ⌜ (at < count) × (count ≤ 32) × (length (now list) ≡ 32) ⌝ }
+    ensures { λ r. ⌜ Front (take at (take count (now (list .entry))) ++ drop (suc at) (take count (now (list .entry)))) (now (list .exit)) r ⌝ }
+{
+    let last = count - 1;
+    let mut i = at;
+    while i < last {
+        list[i] = list[i + 1];
+        i += 1;
+    }
+    last
+}
+
+// Adds the PID that a text is. Returns how many there are then: 33 where there is no room.
+fn add(list: &mut [u16], count: usize, piece: &[u8]) -> usize
+    requires { ⌜ (count ≤ 32) × (length (now list) ≡ 32) ⌝ }
+    ensures { λ r. ⌜ Held (once added (readPid (now (piece .entry))) (take count (now (list .entry)))) (now (list .exit)) r ⌝ }
+{
+    let read = digits::number(piece, Zeros::Allowed, 5, 8191);
+    match read {
+        Read::Value(p) => {
+            let pid = p as u16;
+            let place = place_of(list, count, pid);
+            match place {
+                Place::At(_) => count,
+                Place::Before(at) => insert(list, count, at, pid),
+            }
+        }
+        Read::Nothing => count,
+    }
+}
+
+// Removes the PID that a text is. Returns how many are left.
+fn remove(list: &mut [u16], count: usize, piece: &[u8]) -> usize
+    requires { ⌜ (count ≤ 32) × (length (now list) ≡ 32) ⌝ }
+    ensures { λ r. ⌜ Front (once removed (readPid (now (piece .entry))) (take count (now (list .entry)))) (now (list .exit)) r ⌝ }
+{
+    let read = digits::number(piece, Zeros::Allowed, 5, 8191);
+    match read {
+        Read::Value(p) => {
+            let pid = p as u16;
+            let place = place_of(list, count, pid);
+            match place {
+                Place::At(at) => take_out(list, count, at),
+                Place::Before(_) => count,
+            }
+        }
+        Read::Nothing => count,
+    }
+}
+
+// Adds the PIDs of a text one after the other, where it is given. Returns how many there are then: 33 where they do not fit.
+fn add_all(list: &mut [u16], count: usize, code: u32, text: &[u8]) -> usize
+    requires { ⌜ (count ≤ 32) × (length (now list) ≡ 32) ⌝ }
+    ensures { λ r. ⌜ Held (withText added code (now (text .entry)) (take count (now (list .entry)))) (now (list .exit)) r ⌝ }
+{
+    if code == 0 {
+        return count;
+    }
+    let mut n = count;
+    let mut p = 0;
+    while p <= text.len() {
+        let e = scan::first_from(text, p, Class::Is(b','));
+        n = add(list, n, &text[p..e]);
+        if 32 < n {
+            return n;
+        }
+        p = e + 1;
+    }
+    n
+}
+
+// Removes the PIDs of a text one after the other, where it is given. Returns how many are left.
+fn remove_all(list: &mut [u16], count: usize, code: u32, text: &[u8]) -> usize
+    requires { ⌜ (count ≤ 32) × (length (now list) ≡ 32) ⌝ }
+    ensures { λ r. ⌜ Front (withText removed code (now (text .entry)) (take count (now (list .entry)))) (now (list .exit)) r ⌝ }
+{
+    if code == 0 {
+        return count;
+    }
+    let mut n = count;
+    let mut p = 0;
+    while p <= text.len() {
+        let e = scan::first_from(text, p, Class::Is(b','));
+        n = remove(list, n, &text[p..e]);
+        p = e + 1;
+    }
+    n
+}
+
+// Puts zeros after the first `count` PIDs of an array.
+fn clear_from(list: &mut [u16], count: usize)
+    requires { ⌜ (count ≤ 32) × (length (now list) ≡ 32) ⌝ }
+    ensures { λ r. ⌜ now (list .exit) ≡ laidOut (take count (now (list .entry))) ⌝ }
+{
+    let mut i = count;
+    while i < list.len() {
+        list[i] = 0;
+        i += 1;
     }
 }

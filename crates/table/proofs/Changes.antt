@@ -10,6 +10,7 @@ use lib.Seq.{getD-set-other, getD-set-same}
 use borrow.Author.Tests.{ne-eqb, eq-eqb, eqb-true, eqb-false, not-true, leb-true, le-leb}
 use Rattle.scan.specs.Classes.{isBetween}
 use Rattle.scan.proofs.Bools.{never, and-both}
+use Rattle.stream.specs.Values.{areNone}
 use Rattle.stream.specs.Streams.{noStream, pastStream, isSound, areZero}
 use Rattle.stream.specs.declared.Stream.{Stream}
 use Rattle.table.specs.Counts.{bit, count}
@@ -162,7 +163,7 @@ pub seated-id : (l : List Session) (ms : List Stream) → Seats l (pastStream �
 seated-id l ms r i some q = seated-live l (pastStream ∷ ms) r i some (ap (λ k. streamIn ms k .frontend) q)
 
 pub none-sound : (frontends : ℕ) → isSound frontends noStream ≡ true
-unfolding isSound areZero
+unfolding isSound areZero areNone
 none-sound frontends = refl
 
 module _ (frontends : ℕ) (ms : List Stream) (r : Rows frontends ms) where

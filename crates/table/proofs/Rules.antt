@@ -10,6 +10,7 @@ use lib.ListN.{getD}
 use borrow.Author.Tests.{ne-eqb, eq-eqb, eqb-true, eqb-false, not-true, leb-true, le-leb}
 use Rattle.scan.specs.Lists.{all}
 use Rattle.scan.proofs.Bools.{never, and-both}
+use Rattle.stream.specs.Values.{areNone}
 use Rattle.stream.specs.Streams.{pastStream, isSound, areZero}
 use Rattle.stream.specs.declared.Stream.{Stream}
 use Rattle.table.specs.Counts.{count, areDistinct}
@@ -110,7 +111,7 @@ module _ (t : SatBox) where
         rows =
             record {
               feeds = λ n z. rw (sym (count-map (is-number n) (λ m. m .frontend) (t .streams))) (distinct-count (frontendsOf (t .streams)) (f .0) n z);
-              sound = λ k. all-at (isSound (t .frontends)) (t .streams) k pastStream (unfold isSound areZero in refl) (g .0);
+              sound = λ k. all-at (isSound (t .frontends)) (t .streams) k pastStream (unfold isSound areZero areNone in refl) (g .0);
             };
         proper = λ k. all-at (isProper (t .clock)) (t .sessions) k noSession (unfold isEmpty in refl) (h .0);
         fits = record { whole = eqb-true _ _ (i .0); bound = leb-true _ _ (i .1) };

@@ -1,8 +1,20 @@
 // The box's table: its sessions and streams, what is free in it, and whether it is well formed. A caller may hand in any bytes as a table;
 // `is_well_formed` says whether a box could stand so.
+mod finding;
+mod formed;
+mod numbers;
+
+pub use finding::count_open;
+pub use finding::draw;
+pub use finding::is_held;
+pub use finding::lowest_frontend;
+pub use finding::lowest_id;
+pub use finding::lowest_place;
+pub use finding::place_of;
+pub use formed::is_well_formed;
 ghost use mathlib.Core.Path.{_≡_};
-ghost use Rattle.table.specs.Made.{numberOf};
-ghost use Rattle.table.specs.Formed.{areSizes};
+ghost use Rattle.table.specs.Made.{numberOf, madeOf};
+use formed::are_sizes;
 use stream::Stream;
 
 // One session's place: free exactly if its number is 0. The fields fill it without a gap, so that every byte belongs to one.
@@ -85,6 +97,23 @@ impl SatBox {
     pub const RECORD: u32 = 16;
 
     pub const TIMEOUT: u32 = 60;
+
+    // A box with nothing open, its clock at 0.
+    pub fn fresh(frontends: u16, size: u32) -> Made
+        ensures { λ r. ⌜ r ≡ madeOf frontends size ⌝ }
+    {
+        if are_sizes(frontends, size) {
+            Made {
+                satbox: empty(frontends, size),
+                outcome: Outcome::Done,
+            }
+        } else {
+            Made {
+                satbox: empty(0, 0),
+                outcome: Outcome::Refused(Refusal::Sizes),
+            }
+        }
+    }
 }
 
 fn empty(frontends: u16, size: u32) -> SatBox
@@ -99,12 +128,6 @@ fn empty(frontends: u16, size: u32) -> SatBox
         sequence: 0,
         frontends,
     }
-}
-
-fn are_sizes(frontends: u16, size: u32) -> bool
-    ensures { λ r. ⌜ r ≡ areSizes frontends size ⌝ }
-{
-    ((1 <= frontends) & (frontends <= 8)) & (((1024 <= size) & (size <= 65536)) & (size % 16 == 0))
 }
 
 // Document 01's number of a refusal.

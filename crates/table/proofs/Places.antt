@@ -1,0 +1,71 @@
+-- Loops over a table's places: how long its arrays are, and what a turn's test says. Assumes nothing.
+use mathlib.Core.Path.{_≡_, sym, _∙_}
+use mathlib.Core.Bool.{Bool, true, false, not, cond, _&&_}
+use mathlib.Core.List.{List, map}
+use Prim.Native.Nat.{ℕ, _+_, _≤_, _<_}
+use native.Mathlib.Omega.{arith}
+use lib.ListN.{length, getD, drop, length-map}
+use borrow.Author.Needs.{needs}
+use borrow.Author.Tests.{not-true, not-false}
+use Rattle.scan.proofs.Loops.{turn, end}
+use Rattle.table.specs.Counts.{count}
+use Rattle.table.specs.Formed.{areSizes}
+use Rattle.table.specs.Made.{fresh, madeOf}
+use Rattle.table.specs.declared.SatBox.{SatBox}
+use Rattle.table.specs.declared.Refusal.the-variants.{Sizes}
+use Rattle.table.specs.declared.Outcome.the-variants.{Done, Refused}
+use Rattle.table.specs.declared.Made.{Made}
+
+-- the length of an array of structs, as `good` has it
+pub length-mapped : {A B : Type 0} (f : A → B) (l : List A) (n : ℕ) → length (map f l) ≡ n → length l ≡ n
+length-mapped f l n e = sym (length-map l f) ∙ e
+
+pub ruleset known = (needs, length-mapped)
+
+-- what `if !f(x)` says of what f ensures
+pub failed : {r s : Bool} → r ≡ s → not r ≡ true → s ≡ false
+failed e h = sym e ∙ not-true _ h
+
+pub held : {r s : Bool} → r ≡ s → not r ≡ false → s ≡ true
+held e h = sym e ∙ not-false _ h
+
+-- one test of several in a row: it ends them, or the rest decides
+pub stopped : {r x : Bool} (y : Bool) → r ≡ x → not r ≡ true → false ≡ (x && y)
+stopped y e n = rw (failed e n)
+
+pub passed : {r x b y : Bool} → r ≡ x → not r ≡ false → b ≡ y → b ≡ (x && y)
+passed e n q = rw (held e n) q
+
+-- n of the elements before place i pass the test
+module _ {A : Type 0} (p : A → Bool) where
+  pub record Counting (l : List A) (i n : ℕ) : Type 0 where
+    pub inside : i ≤ length l
+    pub most : n ≤ i
+    pub same : n + count p (drop i l) ≡ count p l
+
+  pub counting-start : (l : List A) → Counting l 0 0
+  counting-start l = record { inside = omega arith; most = omega arith; same = omega arith }
+
+  pub counting-end : {l : List A} {i n : ℕ} → Counting l i n → length l ≤ i → n ≡ count p l
+  counting-end {l} {i} s h = let z = end (count p) l i h in omega (arith, s .same)
+
+  module _ {l : List A} {i n m : ℕ} (d : A) (s : Counting l i n) (h : i < length l) where
+    pub counting-one : m ≡ n + 1 → p (getD l i d) ≡ true → Counting l (i + 1) m
+    counting-one e y =
+        let z : count p (drop i l) ≡ 1 + count p (drop (i + 1) l) = turn (count p) l i d h ∙ rw y in
+        record { inside = omega arith; most = omega (arith, s .most); same = omega (arith, s .same) }
+
+    pub counting-no : m ≡ n → p (getD l i d) ≡ false → Counting l (i + 1) m
+    counting-no e q =
+        let z : count p (drop i l) ≡ 0 + count p (drop (i + 1) l) = turn (count p) l i d h ∙ rw q in
+        record { inside = omega arith; most = omega (arith, s .most); same = omega (arith, s .same) }
+
+-- what making a box gives
+module _ (frontends size : ℕ) {t : Bool} {b : SatBox} (e : t ≡ areSizes frontends size) where
+  pub made : t ≡ true → b ≡ fresh frontends size → record { satbox = b; outcome = Done } ≡ madeOf frontends size
+  unfolding madeOf
+  made y q = rw (sym e ∙ y, q)
+
+  pub refused : t ≡ false → b ≡ fresh 0 0 → record { satbox = b; outcome = Refused Sizes } ≡ madeOf frontends size
+  unfolding madeOf
+  refused n q = rw (sym e ∙ n, q)

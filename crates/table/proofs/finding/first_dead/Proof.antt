@@ -1,0 +1,38 @@
+-- `table::finding::first_dead` meets its contract. Assumes nothing.
+use mathlib.Core.Path.{_≡_, refl}
+use Prim.Native.Nat.{_-_}
+use native.Mathlib.Omega.{arith}
+use lib.ListN.{length}
+use borrow.Author.Tests.{eq-eqb, ne-eqb}
+use Rattle.scan.proofs.Loops.{Seeking, seeking-start, seeking-hit, seeking-more, seeking-end}
+use Rattle.stream.specs.Streams.{pastStream}
+use Rattle.table.specs.Table.{isDead}
+use Rattle.table.proofs.Places.{known}
+use Rattle.table.proofs.finding.first_dead.Statement.{statement}
+use Rattle.table.proofs.finding.first_dead.Tie as tie
+
+abbrev Inv-loop : tie.InvT-loop
+Inv-loop t i₀ i = (length (t .streams) ≡ 8) × Seeking isDead (t .streams) i
+
+abbrev μ-loop : tie.MeasureT-loop
+μ-loop t i₀ i = 8 - i
+
+loop-again : tie.Need-loop-again Inv-loop μ-loop
+loop-again c =
+    let l = c .before .before .loop .inv in
+    (l .0, seeking-more isDead pastStream (l .1) (omega arith) refl (ne-eqb _ _ (c .if1 .left)))
+
+pub first-dead-spec : {M : Type 1} → statement M
+first-dead-spec =
+    tie.close
+    (tie.spec
+    Inv-loop
+    μ-loop
+    (λ c. (search known, seeking-start _ _))
+    (λ c. search known)
+    (λ c. search known)
+    (λ c. seeking-hit isDead pastStream (c .before .before .loop .inv .1) (omega arith) refl (eq-eqb _ _ (c .if1 .taken)))
+    (λ c. search known)
+    (λ c. search known)
+    loop-again
+    (λ c. seeking-end _ (c .before .loop .inv .1) (omega arith)))

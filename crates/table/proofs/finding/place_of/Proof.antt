@@ -1,0 +1,37 @@
+-- `table::finding::place_of` meets its contract. Assumes nothing.
+use mathlib.Core.Path.{_≡_, refl}
+use Prim.Native.Nat.{_-_}
+use native.Mathlib.Omega.{arith}
+use lib.ListN.{length}
+use borrow.Author.Tests.{eq-eqb, ne-eqb}
+use Rattle.scan.proofs.Loops.{Seeking, seeking-start, seeking-hit, seeking-more, seeking-end}
+use Rattle.table.specs.Table.{noSession, has}
+use Rattle.table.proofs.Places.{known}
+use Rattle.table.proofs.finding.place_of.Statement.{statement}
+use Rattle.table.proofs.finding.place_of.Tie as tie
+
+abbrev Inv-loop : tie.InvT-loop
+Inv-loop n t i₀ i = (length (t .sessions) ≡ 32) × Seeking (has n) (t .sessions) i
+
+abbrev μ-loop : tie.MeasureT-loop
+μ-loop n t i₀ i = 32 - i
+
+loop-again : tie.Need-loop-again Inv-loop μ-loop
+loop-again c =
+    let l = c .before .before .loop .inv in
+    (l .0, seeking-more (has _) noSession (l .1) (omega arith) refl (ne-eqb _ _ (c .if1 .left)))
+
+pub place-of-spec : {M : Type 1} → statement M
+place-of-spec =
+    tie.close
+    (tie.spec
+    Inv-loop
+    μ-loop
+    (λ c. (search known, seeking-start _ _))
+    (λ c. search known)
+    (λ c. search known)
+    (λ c. seeking-hit (has _) noSession (c .before .before .loop .inv .1) (omega arith) refl (eq-eqb _ _ (c .if1 .taken)))
+    (λ c. search known)
+    (λ c. search known)
+    loop-again
+    (λ c. seeking-end _ (c .before .loop .inv .1) (omega arith)))

@@ -1,0 +1,12 @@
+-- `table::formed::is_empty` meets its contract. Assumes nothing.
+use borrow.Author.Needs.{needs}
+use Rattle.table.specs.Formed.{isEmpty}
+use Rattle.table.proofs.formed.is_empty.Statement.{statement}
+use Rattle.table.proofs.formed.is_empty.Tie as tie
+
+returns : tie.Need-returns
+unfolding isEmpty
+returns c = search needs
+
+pub is-empty-spec : {M : Type 1} → statement M
+is-empty-spec = tie.close (tie.spec returns)

@@ -1,0 +1,110 @@
+// What is free among the places, the stream IDs, the frontends and the session numbers of a table.
+ghost use mathlib.Core.Path.{_≡_};
+ghost use Prim.Native.Nat.{_≤_};
+ghost use Rattle.scan.specs.Lists.{FirstOf};
+ghost use Rattle.table.specs.Table.{has, isFree, isDead, opens};
+ghost use Rattle.table.specs.Finding.{lowestId, isHeld, lowestFrontend, drawn};
+use crate::SatBox;
+use crate::numbers::frontends_of;
+use crate::numbers::is_among;
+
+// The place of the session that has the number; 32 where none has it.
+pub fn place_of(t: SatBox, n: u32) -> usize
+    ensures { λ r. ⌜ FirstOf (has n) (t .sessions) r ⌝ }
+{
+    let mut i = 0;
+    while i < SatBox::SESSIONS {
+        if t.sessions[i].number == n {
+            return i;
+        }
+        i += 1;
+    }
+    i
+}
+
+// The lowest free place; 32 where none is free.
+pub fn lowest_place(t: SatBox) -> usize
+    ensures { λ r. ⌜ FirstOf isFree (t .sessions) r ⌝ }
+{
+    place_of(t, 0)
+}
+
+fn first_dead(t: SatBox) -> usize
+    ensures { λ r. ⌜ FirstOf isDead (t .streams) r ⌝ }
+{
+    let mut i = 0;
+    while i < SatBox::STREAMS {
+        if t.streams[i].frontend == 0 {
+            return i;
+        }
+        i += 1;
+    }
+    i
+}
+
+// The lowest free stream ID; 9 where none is free.
+pub fn lowest_id(t: SatBox) -> u8
+    ensures { λ r. ⌜ r ≡ lowestId (t .streams) ⌝ }
+{
+    (first_dead(t) + 1) as u8
+}
+
+// Whether a stream holds the frontend.
+pub fn is_held(t: SatBox, f: u32) -> bool
+    ensures { λ r. ⌜ r ≡ isHeld f (t .streams) ⌝ }
+{
+    is_among(&frontends_of(t), f)
+}
+
+// The lowest frontend that no stream holds; the one after the last where all are held.
+pub fn lowest_frontend(t: SatBox) -> u32
+    ensures { λ r. ⌜ r ≡ lowestFrontend (t .frontends) (t .streams) ⌝ }
+{
+    let held = frontends_of(t);
+    let last = t.frontends as u32;
+    let mut f = 1;
+    while f <= last {
+        if !is_among(&held, f) {
+            return f;
+        }
+        f += 1;
+    }
+    f
+}
+
+// The first number, counting up from the draw, that is not 0 and that no session has; after 4294967295 comes 0.
+pub fn draw(t: SatBox, draw: u32) -> u32
+    ensures { λ r. ⌜ r ≡ drawn (t .sessions) draw ⌝ }
+{
+    let mut n = draw;
+    'draw: loop {
+        if n != 0 {
+            let mut i = 0;
+            loop {
+                if i == SatBox::SESSIONS {
+                    break 'draw n;
+                }
+                if t.sessions[i].number == n {
+                    break;
+                }
+                i += 1;
+            }
+        }
+        n = std::num::wrapping_add_u32(n, 1);
+    }
+}
+
+// How many sessions are open.
+pub fn count_open(t: SatBox) -> u32
+    ensures { λ r. ⌜ (r ≡ opens t) × (r ≤ 32) ⌝ }
+{
+    let mut n = 0;
+    let mut i = 0;
+    while i < SatBox::SESSIONS {
+        if t.sessions[i].number != 0 {
+            n += 1;
+        }
+        i += 1;
+    }
+    n
+}
