@@ -4,3 +4,5 @@ pub mod Places
 pub mod Laws
 pub mod Runs
 pub mod Keeping
+pub mod Openings
+pub mod OpeningKeeps

@@ -1,3 +1,4 @@
 pub mod Did
 pub mod Does
 pub mod Closing
+pub mod Opening

@@ -8,7 +8,7 @@ use native.Mathlib.Omega.{arith}
 use lib.Dec.{eqb}
 use lib.ListN.{length, getD, set}
 use borrow.Author.Tests.{eqb-true, eqb-false, eq-eqb, ne-eqb, not-true}
-use Rattle.scan.specs.Lists.{all}
+use Rattle.scan.specs.Lists.{all, first}
 use Rattle.scan.proofs.Bools.{never, and-both}
 use Rattle.table.specs.Counts.{bit, count, any, isAmong, areDistinct}
 
@@ -235,3 +235,52 @@ pub getD-set-here : {A : Type 0} (P : A → Type 0) (l : List A) (i : ℕ) (v d 
 getD-set-here P [] i v d h k = k
 getD-set-here P (a ∷ l) zero v d h k = h
 getD-set-here P (a ∷ l) (suc i) v d h k = getD-set-here P l i v d h k
+
+-- the first that passes: it passes, and there is one where any is counted
+module _ {A : Type 0} (p : A → Bool) where
+  pub first-passes : (l : List A) (d : A) → first p l < length l → p (getD l (first p l) d) ≡ true
+  first-passes [] d h = absurd (omega arith)
+  first-passes (a ∷ l) d h = by (case (p a)) h (first-passes l d)
+    where
+      by : Case (p a) → cond (p a) 0 (suc (first p l)) < suc (length l) → (first p l < length l → p (getD l (first p l) d) ≡ true) → p (getD (a ∷ l) (cond (p a) 0 (suc (first p l))) d) ≡ true
+      by (is y) g k = rw y y
+      by (isnt n) g k = rw n (k (let z = rw n at g in omega arith))
+
+  pub first-some : (l : List A) → 1 ≤ count p l → first p l < length l
+  first-some [] h = absurd (omega arith)
+  first-some (a ∷ l) h = by (case (p a)) h (first-some l)
+    where
+      by : Case (p a) → 1 ≤ bit (p a) + count p l → (1 ≤ count p l → first p l < length l) → cond (p a) 0 (suc (first p l)) < suc (length l)
+      by (is y) g k = rw y (omega arith)
+      by (isnt n) g k = let i = k (omega (arith, bit-no n)) in rw n (omega arith)
+
+-- a sum over the first n numbers
+abbrev pub sumTo : ℕ → (ℕ → ℕ) → ℕ
+sumTo zero f = 0
+sumTo (suc n) f = f n + sumTo n f
+
+pub sum-add : (n : ℕ) (f g : ℕ → ℕ) → sumTo n (λ i. f i + g i) ≡ sumTo n f + sumTo n g
+sum-add zero f g = refl
+sum-add (suc n) f g = omega (arith, sum-add n f g)
+
+-- one of the terms
+pub sum-term : (n : ℕ) (f : ℕ → ℕ) (i : ℕ) → i < n → f i ≤ sumTo n f
+sum-term zero f i h = absurd (omega arith)
+sum-term (suc n) f i h = by (sames i n) (sum-term n f i)
+  where
+    by : Same i n → (i < n → f i ≤ sumTo n f) → f i ≤ f n + sumTo n f
+    by (same e) k = rw e (omega arith)
+    by (other e) k = omega (arith, k (omega arith))
+
+-- terms of at most one, of which one is none
+pub sum-most : (n : ℕ) (f : ℕ → ℕ) → ((i : ℕ) → f i ≤ 1) → sumTo n f ≤ n
+sum-most zero f h = omega arith
+sum-most (suc n) f h = omega (arith, h n, sum-most n f h)
+
+pub sum-less : (n : ℕ) (f : ℕ → ℕ) (i : ℕ) → ((k : ℕ) → f k ≤ 1) → i < n → f i ≡ 0 → sumTo n f < n
+sum-less zero f i h g e = absurd (omega arith)
+sum-less (suc n) f i h g e = by (sames i n) (λ k. sum-less n f i h k e)
+  where
+    by : Same i n → (i < n → sumTo n f < n) → f n + sumTo n f < suc n
+    by (same q) k = let z : f n ≡ 0 = ap f (sym q) ∙ e in omega (arith, sum-most n f h)
+    by (other q) k = omega (arith, h n, k (omega arith))

@@ -6,3 +6,4 @@ pub mod Frontends
 pub mod FormedLaws
 pub mod Rules
 pub mod Changes
+pub mod FreeIds
