@@ -2,3 +2,5 @@ pub mod Did
 pub mod Does
 pub mod Closing
 pub mod Opening
+pub mod Calls
+pub mod Orders

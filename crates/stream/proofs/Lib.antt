@@ -4,3 +4,7 @@ pub mod Places
 pub mod Shifts
 pub mod Edits
 pub mod Texts
+pub mod Merges
+pub mod PidSets
+pub mod Padding
+pub mod Keeping

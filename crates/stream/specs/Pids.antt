@@ -25,6 +25,11 @@ abbrev pub rises : ℕ → List ℕ → Bool
 rises n [] = true
 rises n (p ∷ l) = leb n p && rises (suc p) l
 
+-- whether a PID is in a list
+abbrev pub isIn : ℕ → List ℕ → Bool
+isIn p [] = false
+isIn p (q ∷ l) = eqb p q || isIn p l
+
 -- an ascending list with one PID more; a PID that is there already adds nothing
 abbrev pub added : ℕ → List ℕ → List ℕ
 added p [] = p ∷ []
@@ -101,11 +106,14 @@ laidOut l = l ++ replicate (most - length l) 0
 abbrev pub isZero : ℕ → Bool
 isZero p = eqb p 0
 
+abbrev pub isLow : ℕ → Bool
+isLow p = leb p highest
+
 -- a place's array from some PID on: `count` PIDs, ascending from n, "0 to 8191", and then zeros
 abbrev pub isPadded : ℕ → ℕ → List ℕ → Bool
 isPadded zero n l = all isZero l
 isPadded (suc count) n [] = false
-isPadded (suc count) n (p ∷ l) = leb n p && (leb p highest && isPadded count (suc p) l)
+isPadded (suc count) n (p ∷ l) = leb n p && (isLow p && isPadded count (suc p) l)
 
 -- "PID lists ascending without repeats": as many as the array holds at most, and no list under "all"
 unfoldable pub isChoice : Stream → Bool

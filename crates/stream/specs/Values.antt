@@ -2,10 +2,11 @@
 -- Assumes nothing.
 use Prim.Native.Nat.{ℕ}
 use mathlib.Core.Bool.{Bool, true, false, not, cond, _&&_, _||_}
-use mathlib.Core.List.{List}
+use mathlib.Core.List.{List, [], _∷_}
 use lib.Dec.{eqb, leb}
 use lib.ListN.{getD}
 use Rattle.scan.specs.Classes.{isBetween}
+use Rattle.scan.specs.Lists.{all}
 use Rattle.stream.specs.declared.Values.{Values}
 
 -- the values of a place where no stream is
@@ -59,6 +60,16 @@ goTogether v =
 -- "A given attribute replaces, an absent one stays."
 abbrev pub given : ℕ → ℕ → ℕ
 given code old = cond (eqb code 0) old code
+
+-- the places of the attributes that a stream keeps, and whether a query's codes there are 0 or in range
+abbrev pub kept : List ℕ
+kept = 0 ∷ 2 ∷ 3 ∷ 4 ∷ 5 ∷ 6 ∷ 7 ∷ 8 ∷ 9 ∷ []
+
+abbrev pub isFit : ℕ → ℕ → Bool
+isFit attribute code = eqb code 0 || isInRange attribute code
+
+unfoldable pub areFit : List ℕ → Bool
+areFit codes = all (λ attribute. isFit attribute (getD codes attribute 0)) kept
 
 -- the values after a query's, whose codes stand by the attribute's place; fe is the frontend held and is not kept here
 unfoldable pub merged : Values → List ℕ → Values

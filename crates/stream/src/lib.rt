@@ -1,13 +1,16 @@
 // One stream of the box: its values, its PIDs, and what a query makes of them. All of it is by value; no byte of a request is copied.
+// A list of PIDs is obeyed entry by entry off its text, whatever its length: a byte of it is looked at once for the commas and once as a
+// digit, and an entry costs one look at each lower PID of the stream and, where it changes something, one move of each higher one.
 ghost use mathlib.Core.Path.{_≡_};
 ghost use mathlib.Core.List.{_∷_, _++_};
-ghost use Prim.Native.Nat.{suc, _-_, _≤_, _<_};
-ghost use lib.ListN.{length, take, drop, replicate};
+ghost use Prim.Native.Nat.{suc, _≤_, _<_, min};
+ghost use lib.ListN.{length, take, drop};
 ghost use Rattle.scan.specs.Lists.{all};
-ghost use Rattle.stream.specs.Values.{areNone, isInRange, areInRange, goTogether, areComplete};
+ghost use Rattle.stream.specs.Values.{areNone, isInRange, areInRange, goTogether, given, merged, areComplete};
 ghost use Rattle.stream.specs.Streams.{blank, isSound};
-ghost use Rattle.stream.specs.Pids.{isZero, isPadded, added, removed, readPid, withText, laidOut};
+ghost use Rattle.stream.specs.Pids.{isZero, isPadded, added, removed, readPid, withText, replaced, edited, choiceOf, laidOut};
 ghost use Rattle.stream.specs.Arrays.{Placed, Front, Held, once};
+ghost use Rattle.stream.specs.Merging.{Chosen, chosenBy, mergeOf};
 use digits::Read;
 use digits::Zeros;
 use scan::Class;
@@ -80,7 +83,7 @@ impl Stream {
     }
 }
 
-// Whether a code is one that an attribute may have in a stream, by the attribute's place in document 01's table.
+// Whether an attribute, by its place in document 01's table, may have this code in a stream.
 fn is_in_range(attribute: usize, code: u32) -> bool
     ensures { λ r. ⌜ r ≡ isInRange attribute code ⌝ }
 {
@@ -98,6 +101,7 @@ fn is_in_range(attribute: usize, code: u32) -> bool
     }
 }
 
+// Whether every value is one that its attribute may have in a stream.
 fn are_in_range(v: Values) -> bool
     ensures { λ r. ⌜ r ≡ areInRange v ⌝ }
 {
@@ -141,7 +145,7 @@ fn are_none(v: Values) -> bool
         & (v.fec == 0)
 }
 
-// Whether an array is all zeros from a place on. It looks at every place, so that many are looked at at once.
+// Whether an array is all zeros from a place on. There is no early way out, so that many places can be looked at at once.
 fn are_zero(pids: &[u16], from: usize) -> bool
     ensures { λ r. ⌜ r ≡ all isZero (drop from (now (pids .entry))) ⌝ }
 {
@@ -354,5 +358,157 @@ fn clear_from(list: &mut [u16], count: usize)
     while i < list.len() {
         list[i] = 0;
         i += 1;
+    }
+}
+
+// A stream's PIDs while a query is merged: all of them, or the first `count` of a list. A count of 33 says that they do not fit.
+struct Pids {
+    list: [u16; 32],
+    count: usize,
+    all: u8,
+}
+
+// The code of a list of PIDs that is given.
+const LIST: u32 = 3;
+
+// What pids makes of them: all, none, or the PIDs of its text.
+fn replace(code: u32, text: &[u8]) -> Pids
+    ensures { λ r. ⌜ Chosen (replaced code (now (text .entry))) r ⌝ }
+{
+    let mut list: [u16; 32] = [0; 32];
+    if code == 1 {
+        return Pids {
+            list,
+            count: 0,
+            all: 1,
+        };
+    }
+    if code == 2 {
+        return Pids {
+            list,
+            count: 0,
+            all: 0,
+        };
+    }
+    let count = add_all(&mut list, 0, LIST, text);
+    Pids {
+        list,
+        count,
+        all: 0,
+    }
+}
+
+// How many of an array's 32 PIDs a count means.
+fn at_most(count: u16) -> usize
+    ensures { λ r. ⌜ r ≡ min count 32 ⌝ }
+{
+    if 32 < count {
+        return 32;
+    }
+    count as usize
+}
+
+// What delpids and then addpids make of them.
+fn edit(m: Stream, del: u32, delpids: &[u8], add: u32, addpids: &[u8]) -> Pids
+    ensures { λ r. ⌜ Chosen (edited added add (now (addpids .entry)) (edited removed del (now (delpids .entry)) (choiceOf m))) r ⌝ }
+{
+    let mut list = m.pids;
+    let held = at_most(m.count);
+    if !(m.all == 0) {
+        return Pids {
+            list,
+            count: held,
+            all: 1,
+        };
+    }
+    let left = remove_all(&mut list, held, del, delpids);
+    let count = add_all(&mut list, left, add, addpids);
+    Pids {
+        list,
+        count,
+        all: 0,
+    }
+}
+
+// What a query makes of a stream's PIDs.
+fn choose(m: Stream, codes: [u32; 13], pids: &[u8], delpids: &[u8], addpids: &[u8]) -> Pids
+    ensures { λ r. ⌜ Chosen (chosenBy m codes (now (pids .entry)) (now (delpids .entry)) (now (addpids .entry))) r ⌝ }
+{
+    if codes[10] == 0 {
+        return edit(m, codes[12], delpids, codes[11], addpids);
+    }
+    replace(codes[10], pids)
+}
+
+// A value after a query that gives a code for it, or 0 where it gives none.
+fn given(code: u32, old: u32) -> u32
+    ensures { λ r. ⌜ r ≡ given code old ⌝ }
+{
+    if code == 0 { old } else { code }
+}
+
+// The values after a query's, whose codes stand by the attribute's place in document 01's table.
+fn merged(v: Values, codes: [u32; 13]) -> Values
+    ensures { λ r. ⌜ r ≡ merged v codes ⌝ }
+{
+    Values {
+        src: given(codes[0], v.src),
+        freq: given(codes[2], v.freq),
+        pol: given(codes[3], v.pol),
+        msys: given(codes[4], v.msys),
+        mtype: given(codes[5], v.mtype),
+        plts: given(codes[6], v.plts),
+        ro: given(codes[7], v.ro),
+        sr: given(codes[8], v.sr),
+        fec: given(codes[9], v.fec),
+    }
+}
+
+// What became of a query: merged, or why it was not.
+pub enum Outcome {
+    Merged,
+    Combination,
+    TooMany,
+}
+
+// A stream after a query; as it was where the query is not merged.
+pub struct Change {
+    pub stream: Stream,
+    pub outcome: Outcome,
+}
+
+// Merges a query into a stream: its codes by the attribute's place in document 01's table, 0 where one is not given, and its lists of
+// PIDs as they are written. They are obeyed entry by entry, so that a list may be of any length.
+pub fn merge(m: Stream, codes: [u32; 13], pids: &[u8], delpids: &[u8], addpids: &[u8]) -> Change
+    ensures { λ r. ⌜ r ≡ mergeOf m codes (now (pids .entry)) (now (delpids .entry)) (now (addpids .entry)) ⌝ }
+{
+    let old = m.values;
+    let values = merged(old, codes);
+    if !go_together(values) {
+        return Change {
+            stream: m,
+            outcome: Outcome::Combination,
+        };
+    }
+    let chosen = choose(m, codes, pids, delpids, addpids);
+    let count = chosen.count;
+    if 32 < count {
+        return Change {
+            stream: m,
+            outcome: Outcome::TooMany,
+        };
+    }
+    let mut list = chosen.list;
+    clear_from(&mut list, count);
+    let stream = Stream {
+        pids: list,
+        values,
+        count: count as u16,
+        frontend: m.frontend,
+        all: chosen.all,
+    };
+    Change {
+        stream,
+        outcome: Outcome::Merged,
     }
 }

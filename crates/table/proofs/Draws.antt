@@ -1,7 +1,7 @@
 -- The number that is drawn: the draw ends, since each number that it passes is taken, so that fewer taken numbers are ahead of it; and what
 -- it gives is not taken. Assumes nothing.
-use mathlib.Core.Path.{_≡_, refl, sym, _∙_, subst}
-use mathlib.Core.Bool.{Bool, true, false, cond, _||_}
+use mathlib.Core.Path.{_≡_, refl, sym, subst}
+use mathlib.Core.Bool.{Bool, true, false, or-true}
 use mathlib.Core.List.{List, [], _∷_}
 use Prim.Native.Nat.{ℕ, zero, suc, _+_, _-_, _%_, _≤_, _<_}
 use native.Mathlib.Omega.{arith}
@@ -78,6 +78,9 @@ module _ {l : List Session} {draw n : ℕ} where
   pub drawing-end : {more : ℕ} → Drawing l draw n more → isTaken l n ≡ false → n ≡ drawn l draw
   drawing-end d e = rw e at (d .same)
 
+  free-end : {more : ℕ} → Drawing l draw n more → isTaken l n ≡ false → isTaken l (drawn l draw) ≡ false
+  free-end d e = subst (λ k. isTaken l k ≡ false) (drawing-end d e) e
+
   less : {more : ℕ} → Drawing l draw n more → isTaken l n ≡ true → toPass l draw (nextNumber n) < toPass l draw n
   less d e = passed (noSession ∷ l) draw n (d .from) (d .fits) (omega (arith, d .gone)) (taken-any l n e)
 
@@ -113,10 +116,6 @@ module _ (l : List Session) (n : ℕ) where
 
   pub taken-open : any (has n) l ≡ true → isTaken l n ≡ true
   taken-open e = rw e (or-true (eqb n 0))
-    where
-      or-true : (t : Bool) → t || true ≡ true
-      or-true true = refl
-      or-true false = refl
 
   pub taken-not : (n ≡ 0 → ⊥) → any (has n) l ≡ false → isTaken l n ≡ false
   taken-not z e = rw (ne-eqb n 0 z) e
@@ -126,12 +125,12 @@ drawing-free {l} {draw} zero n d = by (case (isTaken l n))
   where
     by : Case (isTaken l n) → isTaken l (drawn l draw) ≡ false
     by (is y) = absurd (drawing-none d y)
-    by (isnt z) = subst (λ k. isTaken l k ≡ false) (drawing-end d z) z
+    by (isnt z) = free-end d z
 drawing-free {l} {draw} (suc more) n d = by (case (isTaken l n)) (drawing-free more (nextNumber n))
   where
     by : Case (isTaken l n) → (Drawing l draw (nextNumber n) more → isTaken l (drawn l draw) ≡ false) → isTaken l (drawn l draw) ≡ false
     by (is y) next = next (drawing-suc d y)
-    by (isnt z) next = subst (λ k. isTaken l k ≡ false) (drawing-end d z) z
+    by (isnt z) next = free-end d z
 
 -- "the first non-zero number not open": what is drawn is neither
 pub drawn-free : (l : List Session) (draw : ℕ) → length l ≡ 32 → draw < 4294967296 → isTaken l (drawn l draw) ≡ false

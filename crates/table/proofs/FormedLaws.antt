@@ -1,25 +1,23 @@
 -- The rules of a well-formed table as the code tests them: where a session lives, and how many own each stream. Assumes nothing.
 use mathlib.Core.Path.{_≡_, refl, sym, _∙_, ap, subst}
-use mathlib.Core.Bool.{Bool, true, false, not, _&&_, _||_}
-use mathlib.Core.List.{List, _∷_}
+use mathlib.Core.Bool.{Bool, true, false, not, _&&_, _||_, and-true, and-false}
+use mathlib.Core.List.{List}
 use Prim.Native.Nat.{ℕ, zero, suc, _+_, _-_, _≤_, _<_}
-use native.Mathlib.Numerals.{add-one}
 use native.Mathlib.Omega.{arith}
 use lib.Dec.{eqb}
-use lib.ListN.{length, getD, set, drop, replicate, length-set, length-replicate, getD-replicate, List·getD-eq-default}
+use lib.ListN.{length, getD, set, drop, replicate, length-set, getD-replicate, List·getD-eq-default}
 use lib.Seq.{getD-set-same, getD-set-other}
 use borrow.Author.Tests.{eq-eqb, ne-eqb}
 use Rattle.scan.specs.Lists.{all}
 use Rattle.scan.proofs.Loops.{turn, end, Passing, passing-start, passing-more, passing-not, passing-end}
 use Rattle.stream.specs.Streams.{pastStream}
 use Rattle.stream.specs.declared.Stream.{Stream}
-use Rattle.table.specs.Counts.{count}
 use Rattle.table.specs.Table.{noSession, isOpen, sessionAt, streamIn, isDead, owns}
 use Rattle.table.specs.Formed.{isHoused, areOwned}
 use Rattle.table.specs.Owners.{isOwner, Tally}
 use Rattle.table.specs.declared.Session.{Session}
 use Rattle.table.specs.declared.SatBox.{SatBox}
-use Rattle.table.proofs.Counts.{Same, sames, same, other, and-no}
+use Rattle.table.proofs.Counts.{Same, sames, same, other}
 use Rattle.table.proofs.Places.{failed, held, Counting, counting-start, counting-one, counting-no, counting-end}
 
 -- "each open session belongs to a live stream": the stream of an ID stands at the place before it
@@ -85,14 +83,10 @@ module _ (id : ℕ) (s : Session) where
       drops false b c e = refl
 
   owns-other : (s .stream ≡ id → ⊥) → owns id s ≡ false
-  owns-other n = rw (ne-eqb (s .stream) id n, and-no (isOpen s))
+  owns-other n = rw (ne-eqb (s .stream) id n, and-false (isOpen s))
 
   owns-own : isOwner s ≡ true → s .stream ≡ id → owns id s ≡ true
-  owns-own y e = rw (eq-eqb (s .stream) id e, and-yes (isOpen s)) y
-    where
-      and-yes : (a : Bool) → a && true ≡ a
-      and-yes true = refl
-      and-yes false = refl
+  owns-own y e = rw (eq-eqb (s .stream) id e, and-true (isOpen s)) y
 
 -- at each ID stands how many sessions before place i own its stream
 pub record Tallying (l : List Session) (i : ℕ) (owners : List ℕ) : Type 0 where

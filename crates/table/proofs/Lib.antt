@@ -4,6 +4,7 @@ pub mod Draws
 pub mod Counts
 pub mod Frontends
 pub mod FormedLaws
+pub mod Fresh
 pub mod Rules
 pub mod Changes
 pub mod FreeIds

@@ -1,12 +1,12 @@
 -- Loops that gather numbers into an array and look them up: a record for what holds at place i, and a law for the start, a turn and each
 -- way out. Assumes nothing.
 use mathlib.Core.Path.{_≡_, refl, sym, _∙_, ap}
-use mathlib.Core.Bool.{Bool, true, false, _||_}
-use mathlib.Core.List.{List, [], map, _++_, append-nil}
-use Prim.Native.Nat.{ℕ, suc, _+_, _≤_, _<_}
+use mathlib.Core.Bool.{Bool, true, false}
+use mathlib.Core.List.{List, map, append-nil}
+use Prim.Native.Nat.{ℕ, _+_, _≤_, _<_}
 use native.Mathlib.Numerals.{add-one}
 use native.Mathlib.Omega.{arith}
-use lib.ListN.{length, getD, drop, take, set, length-set, length-map, drop-of-length-le, List·getD-map}
+use lib.ListN.{length, getD, drop, set, length-set, length-map, drop-of-length-le, List·getD-map}
 use lib.Seq.{paste, paste-zero, paste-suc, take-all}
 use borrow.Author.Tests.{eq-eqb, ne-eqb}
 use Rattle.scan.specs.Lists.{part}

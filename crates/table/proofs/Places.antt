@@ -1,6 +1,6 @@
--- Loops over a table's places: how long its arrays are, and what a turn's test says. Assumes nothing.
+-- What the proofs of loops over a table's places share: how long its arrays are, what a test says, and counting. Assumes nothing.
 use mathlib.Core.Path.{_≡_, sym, _∙_}
-use mathlib.Core.Bool.{Bool, true, false, not, cond, _&&_}
+use mathlib.Core.Bool.{Bool, true, false, not, _&&_}
 use mathlib.Core.List.{List, map}
 use Prim.Native.Nat.{ℕ, _+_, _≤_, _<_}
 use native.Mathlib.Omega.{arith}
@@ -9,12 +9,6 @@ use borrow.Author.Needs.{needs}
 use borrow.Author.Tests.{not-true, not-false}
 use Rattle.scan.proofs.Loops.{turn, end}
 use Rattle.table.specs.Counts.{count}
-use Rattle.table.specs.Formed.{areSizes}
-use Rattle.table.specs.Made.{fresh, madeOf}
-use Rattle.table.specs.declared.SatBox.{SatBox}
-use Rattle.table.specs.declared.Refusal.the-variants.{Sizes}
-use Rattle.table.specs.declared.Outcome.the-variants.{Done, Refused}
-use Rattle.table.specs.declared.Made.{Made}
 
 -- the length of an array of structs, as `good` has it
 pub length-mapped : {A B : Type 0} (f : A → B) (l : List A) (n : ℕ) → length (map f l) ≡ n → length l ≡ n
@@ -59,13 +53,3 @@ module _ {A : Type 0} (p : A → Bool) where
     counting-no e q =
         let z : count p (drop i l) ≡ 0 + count p (drop (i + 1) l) = turn (count p) l i d h ∙ rw q in
         record { inside = omega arith; most = omega (arith, s .most); same = omega (arith, s .same) }
-
--- what making a box gives
-module _ (frontends size : ℕ) {t : Bool} {b : SatBox} (e : t ≡ areSizes frontends size) where
-  pub made : t ≡ true → b ≡ fresh frontends size → record { satbox = b; outcome = Done } ≡ madeOf frontends size
-  unfolding madeOf
-  made y q = rw (sym e ∙ y, q)
-
-  pub refused : t ≡ false → b ≡ fresh 0 0 → record { satbox = b; outcome = Refused Sizes } ≡ madeOf frontends size
-  unfolding madeOf
-  refused n q = rw (sym e ∙ n, q)

@@ -4,3 +4,4 @@ pub mod Formed
 pub mod Owners
 pub mod Finding
 pub mod Made
+pub mod Samples

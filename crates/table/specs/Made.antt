@@ -9,7 +9,6 @@ use Rattle.table.specs.Formed.{areSizes}
 use Rattle.table.specs.declared.SatBox.{SatBox}
 use Rattle.table.specs.declared.Refusal.{Refusal}
 use Rattle.table.specs.declared.Refusal.the-variants.{Table, Journal, Answer, Buffer, Frontend, Sizes}
-use Rattle.table.specs.declared.Outcome.{Outcome}
 use Rattle.table.specs.declared.Outcome.the-variants.{Done, Refused}
 use Rattle.table.specs.declared.Made.{Made}
 

@@ -12,14 +12,14 @@ use crate::numbers::is_among;
 pub fn place_of(t: SatBox, n: u32) -> usize
     ensures { λ r. ⌜ FirstOf (has n) (t .sessions) r ⌝ }
 {
-    let mut i = 0;
-    while i < SatBox::SESSIONS {
-        if t.sessions[i].number == n {
-            return i;
+    let mut place = 0;
+    while place < SatBox::SESSIONS {
+        if t.sessions[place].number == n {
+            return place;
         }
-        i += 1;
+        place += 1;
     }
-    i
+    place
 }
 
 // The lowest free place; 32 where none is free.
@@ -29,6 +29,7 @@ pub fn lowest_place(t: SatBox) -> usize
     place_of(t, 0)
 }
 
+// The place of the first stream that is not live; 8 where all are.
 fn first_dead(t: SatBox) -> usize
     ensures { λ r. ⌜ FirstOf isDead (t .streams) r ⌝ }
 {
@@ -78,17 +79,15 @@ pub fn draw(t: SatBox, draw: u32) -> u32
 {
     let mut n = draw;
     'draw: loop {
-        if n != 0 {
-            let mut i = 0;
-            loop {
-                if i == SatBox::SESSIONS {
-                    break 'draw n;
-                }
-                if t.sessions[i].number == n {
-                    break;
-                }
-                i += 1;
+        let mut i = 0;
+        while n != 0 {
+            if i == SatBox::SESSIONS {
+                break 'draw n;
             }
+            if t.sessions[i].number == n {
+                break;
+            }
+            i += 1;
         }
         n = std::num::wrapping_add_u32(n, 1);
     }

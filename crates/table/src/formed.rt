@@ -16,7 +16,9 @@ use crate::numbers::numbers_of;
 pub(crate) fn are_sizes(frontends: u16, size: u32) -> bool
     ensures { λ r. ⌜ r ≡ areSizes frontends size ⌝ }
 {
-    ((1 <= frontends) & (frontends <= 8)) & (((1024 <= size) & (size <= 65536)) & (size % 16 == 0))
+    ((1 <= frontends) & (frontends <= SatBox::MOST_FRONTENDS))
+        & (((SatBox::LEAST_SIZE <= size) & (size <= SatBox::MOST_SIZE))
+            & (size % SatBox::RECORD == 0))
 }
 
 fn are_numbers_distinct(t: SatBox) -> bool
@@ -77,7 +79,7 @@ fn owners_of(t: SatBox) -> [u32; 9]
     owners
 }
 
-// Whether each live stream has one owner.
+// Whether each live stream has one owner. The stream at place i has the ID i + 1.
 fn are_owned(t: SatBox) -> bool
     ensures { λ r. ⌜ r ≡ areOwned (t .sessions) 1 (t .streams) ⌝ }
 {

@@ -1,6 +1,6 @@
 -- `table::SatBox::fresh` meets its contract. Assumes nothing.
 use borrow.Author.Needs.{needs}
-use Rattle.table.proofs.Places.{made, refused}
+use Rattle.table.proofs.Fresh.{made, refused}
 use Rattle.table.proofs.SatBox.fresh.Statement.{statement}
 use Rattle.table.proofs.SatBox.fresh.Tie as tie
 

@@ -32,28 +32,29 @@ draw-holds c =
     (long, (33, drawing-start (c .args .t1 .sessions) (c .args .draw) long (search known)))
 
 -- both ways to the next number have shown that this one is taken
-was-taken : (c : tie.Joined1 Inv-loop μ-loop Inv-draw μ-draw) → isTaken (c .before .before .args .t1 .sessions) (c .before .draw .n) ≡ true
+was-taken : (c : tie.Left-loop Inv-loop μ-loop Inv-draw μ-draw) → isTaken (c .before .before .before .args .t1 .sessions) (c .before .before .draw .n) ≡ true
 was-taken c =
-    let l = c .before .before .args .t1 .sessions in
-    let n = c .before .draw .n in
+    let l = c .before .before .before .args .t1 .sessions in
+    let n = c .before .before .draw .n in
     ⊎-elim
-    (λ w. taken-open l n (sym (lacking-hit (has n) noSession (w .1 .inv) (omega arith) (eq-eqb _ _ (w .3 .taken)))))
     (λ w. taken-zero l n (w .left))
-    (c .if1 .came)
+    (λ w. taken-open l n (sym (lacking-hit (has n) noSession (c .before .loop .inv) (omega arith) (eq-eqb _ _ (w .2 .taken)))))
+    (c .loop-test .came)
 
 draw-less : tie.Need-draw-less Inv-loop μ-loop Inv-draw μ-draw
-draw-less c = drawing-less (c .before .before .draw .inv .1 .1) (was-taken (c .before)) (c .wrapping-add-u32 .ensures)
+draw-less c = drawing-less (c .before .before .before .draw .inv .1 .1) (was-taken (c .before)) (c .wrapping-add-u32 .ensures)
 
 draw-again : tie.Need-draw-again Inv-loop μ-loop Inv-draw μ-draw
 draw-again c =
-    let d = c .before .before .draw .inv in
+    let d = c .before .before .before .draw .inv in
     (d .0, drawing-more (d .1 .1) (was-taken (c .before)) (c .wrapping-add-u32 .ensures))
 
 returns : tie.Need-returns Inv-loop μ-loop Inv-draw μ-draw
 returns c =
-    let at = c .before in
-    let d = at .before .before .draw in
-    drawing-end (d .inv .1 .1) (taken-not (at .before .before .before .args .t1 .sessions) (d .n) (at .before .if1 .taken) (sym (lacking-end (has (d .n)) (at .loop .inv) (omega arith))))
+    let at = c .before .before in
+    let d = at .before .draw in
+    drawing-end (d .inv .1 .1)
+    (taken-not (at .before .before .args .t1 .sessions) (d .n) (c .before .loop-test .taken) (sym (lacking-end (has (d .n)) (at .loop .inv) (omega arith))))
 
 pub draw-spec : {M : Type 1} → statement M
 draw-spec =
@@ -69,7 +70,7 @@ draw-spec =
     (λ c. search known)
     (λ c. search known)
     (λ c. search known)
-    (λ c. lacking-more _ noSession (c .before .before .loop .inv) (omega arith) (ne-eqb _ _ (c .if3 .left)))
+    (λ c. lacking-more _ noSession (c .before .before .before .loop .inv) (omega arith) (ne-eqb _ _ (c .if2 .left)))
     (λ c κs. search known)
     draw-less
     draw-again

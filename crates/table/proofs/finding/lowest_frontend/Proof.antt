@@ -1,6 +1,5 @@
 -- `table::finding::lowest_frontend` meets its contract. Invariant: the frontends below f are held. Assumes nothing.
 use Prim.Native.Nat.{_+_, _-_}
-use native.Mathlib.Omega.{arith}
 use borrow.Author.Needs.{needs}
 use borrow.Author.Tests.{not-true, not-false}
 use Rattle.table.proofs.Frontends.{Ranging, ranging-start, ranging-more, ranging-hit, ranging-end}

@@ -11,10 +11,10 @@ use Rattle.table.proofs.finding.place_of.Statement.{statement}
 use Rattle.table.proofs.finding.place_of.Tie as tie
 
 abbrev Inv-loop : tie.InvT-loop
-Inv-loop n t i₀ i = (length (t .sessions) ≡ 32) × Seeking (has n) (t .sessions) i
+Inv-loop n t place₀ place = (length (t .sessions) ≡ 32) × Seeking (has n) (t .sessions) place
 
 abbrev μ-loop : tie.MeasureT-loop
-μ-loop n t i₀ i = 32 - i
+μ-loop n t place₀ place = 32 - place
 
 loop-again : tie.Need-loop-again Inv-loop μ-loop
 loop-again c =

@@ -1,11 +1,10 @@
 -- `table::formed::are_streams_sound` meets its contract. Assumes nothing.
 use mathlib.Core.Path.{_≡_}
 use Prim.Native.Nat.{_-_}
-use native.Mathlib.Omega.{arith}
 use lib.ListN.{length}
 use borrow.Author.Tests.{not-true, not-false}
 use Rattle.scan.proofs.Loops.{Passing, passing-start, passing-more, passing-not, passing-end}
-use Rattle.stream.specs.Streams.{pastStream, isSound}
+use Rattle.stream.specs.Streams.{isSound}
 use Rattle.table.proofs.Places.{known}
 use Rattle.table.proofs.formed.are_streams_sound.Statement.{statement}
 use Rattle.table.proofs.formed.are_streams_sound.Tie as tie
@@ -16,23 +15,18 @@ Inv-loop t i₀ i = (length (t .streams) ≡ 8) × Passing (isSound (t .frontend
 abbrev μ-loop : tie.MeasureT-loop
 μ-loop t i₀ i = 8 - i
 
-loop-again : tie.Need-loop-again Inv-loop μ-loop
-loop-again c =
-    let l = c .before .before .before .before .loop .inv in
-    (l .0, passing-more _ pastStream (l .1) (omega arith) (c .before .is-sound .ensures) (not-false _ (c .if1 .left)))
-
 pub are-streams-sound-spec : {M : Type 1} → statement M
 are-streams-sound-spec =
     tie.close
     (tie.spec
     Inv-loop
     μ-loop
-    (λ c. (search known, passing-start _ _))
+    (λ c. search (passing-start, known))
     (λ c. search known)
     (λ c. search known)
     (λ c κs. search known)
-    (λ c. passing-not _ pastStream (c .before .before .before .before .loop .inv .1) (omega arith) (c .before .is-sound .ensures) (not-true _ (c .if1 .taken)))
+    (λ c. search (passing-not, not-true, known))
     (λ c. search known)
     (λ c. search known)
-    loop-again
-    (λ c. passing-end _ (c .before .loop .inv .1) (omega arith)))
+    (λ c. search (passing-more, not-false, known))
+    (λ c. passing-end _ (c .before .loop .inv .1) (search known)))

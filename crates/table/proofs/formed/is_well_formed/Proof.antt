@@ -35,7 +35,7 @@ returns-7 c = search (stopped, passed) depth 9
 
 returns-8 : tie.Need-returns-8
 unfolding wellFormed
-returns-8 c = search (stopped, passed) depth 9
+returns-8 c = search passed depth 9
 
 pub is-well-formed-spec : {M : Type 1} → statement M
 is-well-formed-spec =

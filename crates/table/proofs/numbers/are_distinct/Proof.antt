@@ -1,6 +1,5 @@
 -- `table::numbers::are_distinct` meets its contract. Invariant: each number before i is 0 or does not come again. Assumes nothing.
 use Prim.Native.Nat.{_-_}
-use native.Mathlib.Omega.{arith}
 use lib.ListN.{length}
 use borrow.Author.Needs.{needs}
 use Rattle.table.proofs.NumberLaws.{Apart, apart-start, apart-zero, apart-more, apart-not, apart-end}

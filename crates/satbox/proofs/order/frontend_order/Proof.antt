@@ -1,0 +1,27 @@
+-- `satbox::order::frontend_order` meets its contract. Assumes nothing.
+use mathlib.Core.Path.{sym, _∙_}
+use borrow.Author.Needs.{needs}
+use Rattle.table.proofs.Places.{failed, held}
+use Rattle.satbox.specs.Orders.{orderOf}
+use Rattle.satbox.proofs.OrderLaws.{no-frontend, a-frontend}
+use Rattle.satbox.proofs.order.frontend_order.Statement.{statement}
+use Rattle.satbox.proofs.order.frontend_order.Tie as tie
+
+returns : tie.Need-returns
+unfolding orderOf
+returns c = rw (failed (c .before .before .is-well-formed .ensures) (c .before .if1 .taken)) (c .off .ensures)
+
+returns-2 : tie.Need-returns-2
+unfolding orderOf
+returns-2 c =
+    let d = c .before .before .before in
+    rw (held (d .before .is-well-formed .ensures) (d .if1 .left), no-frontend _ _ (c .before .if2 .taken)) (c .off2 .ensures)
+
+returns-3 : tie.Need-returns-3
+unfolding orderOf
+returns-3 c =
+    let d = c .before .before .before in
+    rw (held (d .before .is-well-formed .ensures) (d .if1 .left), a-frontend _ _ (c .before .if2 .left)) (c .order-for .ensures)
+
+pub frontend-order-spec : {M : Type 1} → statement M
+frontend-order-spec = tie.close (tie.spec (λ c κs. search needs) (λ c κs. search needs) returns (λ c. search needs) (λ c κs. search needs) returns-2 (λ c κs. search needs) returns-3)

@@ -1,0 +1,190 @@
+-- Merging keeps a live stream sound, with its frontend; a query that is refused changes nothing. Assumes nothing.
+use mathlib.Core.Path.{_≡_, refl, ap, _∙_, sym}
+use mathlib.Core.Bool.{Bool, true, false, not, cond, _&&_, _||_}
+use mathlib.Core.List.{List, [], _∷_}
+use Prim.Native.Nat.{ℕ, _-_, _≤_}
+use native.Mathlib.Omega.{arith}
+use lib.Dec.{eqb, leb, ltb}
+use lib.ListN.{length, getD, take}
+use borrow.Author.Tests.{le-leb, ltb-false, eqb-true, not-true, not-false}
+use Rattle.scan.specs.Lists.{all}
+use Rattle.scan.specs.Cut.{cut}
+use Rattle.scan.proofs.Bools.{never, and-both, by-test}
+use Rattle.digits.specs.declared.Read.{Read}
+use Rattle.digits.specs.declared.Read.the-variants.{Value, Nothing}
+use Rattle.stream.specs.Values.{isInRange, areInRange, goTogether, given, kept, isFit, areFit, merged}
+use Rattle.stream.specs.Pids.{isIn, isLow, rises, added, removed, readPid, withNumber, numbersOf, numbersIn, obeyed, addedAll, removedAll, withText, Choice, replaced, edited, chosen, areTooMany, choiceOf, laidOut, isPadded, isChoice}
+use Rattle.stream.specs.Streams.{isSound}
+use Rattle.stream.specs.Merging.{chosenBy, changed, mergeOf}
+use Rattle.stream.specs.declared.Values.{Values}
+use Rattle.stream.specs.declared.Stream.{Stream}
+use Rattle.stream.specs.declared.Change.{Change}
+use Rattle.stream.specs.declared.Outcome.the-variants.{Merged, Combination, TooMany}
+use Rattle.stream.proofs.Edits.{pid-most}
+use Rattle.stream.proofs.PidSets.{both-and, rises-added-all, rises-removed-all, all-added-all, all-removed-all}
+use Rattle.stream.proofs.Padding.{Padded, padded-is, padded-laid}
+use Rattle.stream.proofs.Soundness.{Live, sound-live, live-sound}
+
+-- the numbers of a text are PIDs
+with-low : (r : Read) (l : List ℕ) → ((v : ℕ) → r ≡ Value v → v ≤ 8191) → all isLow l ≡ true → all isLow (withNumber r l) ≡ true
+with-low (Value v) l h e = both-and (le-leb v 8191 (h v refl)) e
+with-low Nothing l h e = e
+
+numbers-of-low : (pieces : List (List ℕ)) → all isLow (numbersOf pieces) ≡ true
+numbers-of-low [] = refl
+numbers-of-low (piece ∷ pieces) = with-low (readPid piece) (numbersOf pieces) (λ v. pid-most piece) (numbers-of-low pieces)
+
+pub numbers-low : (text : List ℕ) → all isLow (numbersIn text) ≡ true
+unfolding numbersIn
+numbers-low text = numbers-of-low (cut 44 text)
+
+-- a choice as a stream may have it: an ascending list of PIDs, and none under "all"
+pub record Fine (c : Choice) : Type 0 where
+  pub rising : rises 0 (c .list) ≡ true
+  pub low : all isLow (c .list) ≡ true
+  pub bare : c .all ≡ true → c .list ≡ []
+
+none-fine : (t : Bool) → Fine (record { all = t; list = [] })
+none-fine t = record { rising = refl; low = refl; bare = λ e. refl }
+
+list-fine : (l : List ℕ) → rises 0 l ≡ true → all isLow l ≡ true → Fine (record { all = false; list = l })
+list-fine l e h = record { rising = e; low = h; bare = λ z. never z refl }
+
+replaced-fine : (code : ℕ) (text : List ℕ) → Fine (replaced code text)
+unfolding replaced
+replaced-fine code text = by (eqb code 1) (eqb code 2)
+  where
+    by : (s t : Bool) → Fine (cond s (record { all = true; list = [] }) (cond t (record { all = false; list = [] }) (record { all = false; list = addedAll (numbersIn text) [] })))
+    by true t = none-fine true
+    by false true = none-fine false
+    by false false =
+        list-fine (addedAll (numbersIn text) []) (rises-added-all (numbersIn text) [] refl) (all-added-all isLow (numbersIn text) [] (numbers-low text) refl)
+
+edited-fine : (edit : ℕ → List ℕ → List ℕ) → ((ps l : List ℕ) → rises 0 l ≡ true → rises 0 (obeyed edit ps l) ≡ true)
+    → ((ps l : List ℕ) → all isLow ps ≡ true → all isLow l ≡ true → all isLow (obeyed edit ps l) ≡ true) → (code : ℕ) (text : List ℕ) {c : Choice} → Fine c
+    → Fine (edited edit code text c)
+edited-fine edit f g code text {c} h = by (c .all) (eqb code 0)
+  where
+    by : (s t : Bool) → Fine (cond s c (record { all = false; list = cond t (c .list) (obeyed edit (numbersIn text) (c .list)) }))
+    by true t = h
+    by false true = list-fine (c .list) (h .rising) (h .low)
+    by false false = list-fine (obeyed edit (numbersIn text) (c .list)) (f (numbersIn text) (c .list) (h .rising)) (g (numbersIn text) (c .list) (numbers-low text) (h .low))
+
+pub chosen-fine : (pids : ℕ) (pidsText : List ℕ) (del : ℕ) (delText : List ℕ) (add : ℕ) (addText : List ℕ) {c : Choice} → Fine c → Fine (chosen pids pidsText del delText add addText c)
+unfolding chosen
+chosen-fine pids pidsText del delText add addText {c} h = by (eqb pids 0)
+  where
+    by : (t : Bool) → Fine (cond t (edited added add addText (edited removed del delText c)) (replaced pids pidsText))
+    by true =
+        edited-fine added rises-added-all (all-added-all isLow) add addText (edited-fine removed rises-removed-all (λ ps l e. all-removed-all isLow ps l) del delText h)
+    by false = replaced-fine pids pidsText
+
+-- a stream's choice, there and back
+pub choice-fine : (m : Stream) → isChoice m ≡ true → Fine (choiceOf m)
+unfolding isChoice
+choice-fine m e =
+    let a = and-both (leb (m .all) 1) ((eqb (m .all) 0 || eqb (m .count) 0) && isPadded (m .count) 0 (m .pids)) e in
+    let b = and-both (eqb (m .all) 0 || eqb (m .count) 0) (isPadded (m .count) 0 (m .pids)) (a .1) in
+    let p : Padded (m .count) 0 (m .pids) = padded-is (m .count) 0 (m .pids) (b .1) in
+    record {
+      rising = p .rising;
+      low = p .low;
+      bare = λ z. ap (λ n. take n (m .pids)) (eqb-true (m .count) 0 (rw (not-true (eqb (m .all) 0) z) at (b .0)));
+    }
+
+pub fine-choice : (m : Stream) (v : Values) {c : Choice} → Fine c → areTooMany c ≡ false → isChoice (changed m v c) ≡ true
+unfolding isChoice changed
+fine-choice m v {c} h e = by (c .all) (h .bare)
+  where
+    laid : isPadded (length (c .list)) 0 (laidOut (c .list)) ≡ true
+    laid = padded-laid 0 (32 - length (c .list)) (c .list) (h .rising) (h .low)
+
+    by : (t : Bool) → (t ≡ true → c .list ≡ []) → leb (cond t 1 0) 1 && ((eqb (cond t 1 0) 0 || eqb (length (c .list)) 0) && isPadded (length (c .list)) 0 (laidOut (c .list))) ≡ true
+    by true b = rw (b refl) refl
+    by false b = laid
+
+-- values in range stay in range
+pub all-in : (q : ℕ → Bool) (l : List ℕ) (a : ℕ) → all q l ≡ true → isIn a l ≡ true → q a ≡ true
+all-in q [] a e h = never h refl
+all-in q (x ∷ l) a e h =
+    let b = and-both (q x) (all q l) e in
+    by-test (λ t. t || isIn a l ≡ true → q a ≡ true) (eqb a x)
+    (λ y z. rw (eqb-true a x y) (b .0))
+    (λ n z. all-in q l a (b .1) z) h
+
+given-ranged : (attribute code old : ℕ) → isFit attribute code ≡ true → isInRange attribute old ≡ true → isInRange attribute (given code old) ≡ true
+given-ranged attribute code old f h =
+    by-test (λ t. t || isInRange attribute code ≡ true → isInRange attribute (cond t old code) ≡ true) (eqb code 0) (λ y z. h) (λ n z. z) f
+
+keeping : {a b c d : Bool} → (a ≡ true → b ≡ true) → (c ≡ true → d ≡ true) → a && c ≡ true → b && d ≡ true
+keeping {a} {b} {c} {d} f g e = let x = and-both a c e in both-and (f (x .0)) (g (x .1))
+
+pub merged-ranged : (v : Values) (codes : List ℕ) → areFit codes ≡ true → areInRange v ≡ true → areInRange (merged v codes) ≡ true
+unfolding areFit areInRange merged
+merged-ranged v codes f =
+    keeping (keeping (keeping (keeping (keeping (keeping (keeping (keeping (one 0 refl (v .src)) (one 2 refl (v .freq))) (one 3 refl (v .pol))) (one 4 refl (v .msys))) (one 5 refl (v .mtype))) (one 6 refl (v .plts))) (one 7 refl (v .ro))) (one 8 refl (v .sr))) (one 9 refl (v .fec))
+  where
+    one : (a : ℕ) → isIn a kept ≡ true → (old : ℕ) → isInRange a old ≡ true → isInRange a (given (getD codes a 0) old) ≡ true
+    one a k old h = given-ranged a (getD codes a 0) old (all-in (λ b. isFit b (getD codes b 0)) kept a f k) h
+
+-- a query by the two rules that may refuse it, and the stream m or, where neither does, x
+module _ (m x : Stream) where
+  abbrev settled : Bool → Bool → Change
+  settled broken many = cond broken (record { stream = m; outcome = Combination }) (cond many (record { stream = m; outcome = TooMany }) (record { stream = x; outcome = Merged }))
+
+  settled-merged : (s t : Bool) → settled s t .outcome ≡ Merged → (s ≡ false) × (t ≡ false)
+  settled-merged true t e = let z : _≡_ {A = ℕ} 0 1 = cc in absurd (omega arith)
+  settled-merged false true e = let z : _≡_ {A = ℕ} 0 1 = cc in absurd (omega arith)
+  settled-merged false false e = (refl, refl)
+
+  settled-refused : (s t : Bool) → (settled s t .outcome ≡ Merged → ⊥) → settled s t .stream ≡ m
+  settled-refused true t f = refl
+  settled-refused false true f = refl
+  settled-refused false false f = absurd (f refl)
+
+  settled-frontend : (s t : Bool) → x .frontend ≡ m .frontend → settled s t .stream .frontend ≡ m .frontend
+  settled-frontend true t e = refl
+  settled-frontend false true e = refl
+  settled-frontend false false e = e
+
+module _ (m : Stream) (codes pids delpids addpids : List ℕ) where
+  abbrev values : Values
+  values = merged (m .values) codes
+
+  abbrev choice : Choice
+  choice = chosenBy m codes pids delpids addpids
+
+  passes : mergeOf m codes pids delpids addpids .outcome ≡ Merged → (not (goTogether values) ≡ false) × (areTooMany choice ≡ false)
+  unfolding mergeOf
+  passes = settled-merged m (changed m values choice) (not (goTogether values)) (areTooMany choice)
+
+  merge-is : mergeOf m codes pids delpids addpids .outcome ≡ Merged → mergeOf m codes pids delpids addpids .stream ≡ changed m values choice
+  unfolding mergeOf
+  merge-is e = let p = passes e in rw (p .0, p .1)
+
+  pub merge-sound : (f : ℕ) → isSound f m ≡ true → (m .frontend ≡ 0 → ⊥) → areFit codes ≡ true → mergeOf m codes pids delpids addpids .outcome ≡ Merged
+      → isSound f (mergeOf m codes pids delpids addpids .stream) ≡ true
+  unfolding changed
+  merge-sound f s u k e =
+      let p = passes e in
+      let l : Live f m = sound-live f m s u in
+      rw (merge-is e)
+      (live-sound
+      (record {
+        used = u;
+        within = l .within;
+        ranged = merged-ranged (m .values) codes k (l .ranged);
+        together = not-false (goTogether values) (p .0);
+        choice =
+            fine-choice m values
+            (chosen-fine (getD codes 10 0) pids (getD codes 12 0) delpids (getD codes 11 0) addpids (choice-fine m (l .choice))) (p .1);
+      }))
+
+  pub merge-frontend : mergeOf m codes pids delpids addpids .stream .frontend ≡ m .frontend
+  unfolding mergeOf changed
+  merge-frontend = settled-frontend m (changed m values choice) (not (goTogether values)) (areTooMany choice) refl
+
+  -- "a status other than 200 changes nothing"
+  pub merge-refused : (mergeOf m codes pids delpids addpids .outcome ≡ Merged → ⊥) → mergeOf m codes pids delpids addpids .stream ≡ m
+  unfolding mergeOf
+  merge-refused = settled-refused m (changed m values choice) (not (goTogether values)) (areTooMany choice)

@@ -1,0 +1,120 @@
+-- Samples of the meanings, by computation: what is free, numbers that are drawn, and tables at the edges of the rules. Assumes nothing.
+use mathlib.Core.Path.{_≡_, refl}
+use mathlib.Core.Bool.{true, false}
+use mathlib.Core.List.{List, [], _∷_, _++_}
+use Prim.Native.Nat.{ℕ, _-_}
+use lib.ListN.{length, replicate}
+use Rattle.stream.specs.Values.{areNone, isInRange, areInRange, goTogether}
+use Rattle.stream.specs.Pids.{isChoice}
+use Rattle.stream.specs.Streams.{noStream, blank, areZero, isSound}
+use Rattle.stream.specs.declared.Stream.{Stream}
+use Rattle.table.specs.Table.{noSession}
+use Rattle.table.specs.Formed.{isSeated, isEmpty, wellFormed}
+use Rattle.table.specs.Finding.{lowestPlace, placeOf, lowestId, lowestFrontend, drawn}
+use Rattle.table.specs.Made.{fresh, madeOf}
+use Rattle.table.specs.declared.Refusal.the-variants.{Sizes}
+use Rattle.table.specs.declared.Outcome.the-variants.{Done, Refused}
+use Rattle.table.specs.declared.Session.{Session}
+use Rattle.table.specs.declared.SatBox.{SatBox}
+
+-- a session on a stream, by its number, owning or not, with its last time and its port
+abbrev pub session : ℕ → ℕ → ℕ → ℕ → ℕ → Session
+session number stream owner last port =
+    record { number = number; address = 3232281127; last = last; port = port; stream = stream; owner = owner; playing = 0 }
+
+abbrev pub owner : ℕ → Session
+owner number = session number 1 1 10 5000
+
+abbrev pub joiner : ℕ → Session
+joiner number = session number 1 0 10 5002
+
+-- a free place that is not all zeros
+abbrev pub remnant : Session
+remnant = record { number = 0; address = 0; last = 0; port = 5000; stream = 0; owner = 0; playing = 0 }
+
+-- the 32 places and the 8 streams, by what stands at their start
+abbrev pub places : List Session → List Session
+places l = l ++ replicate (32 - length l) noSession
+
+abbrev pub rows : List Stream → List Stream
+rows ms = ms ++ replicate (8 - length ms) noStream
+
+-- P3: "draw 0 gives 00000001"
+pub p3 : drawn (places []) 0 ≡ 1
+unfolding drawn
+p3 = refl
+
+-- P4: "draw 4294967295 while FFFFFFFF is open gives the first free from 1"
+pub p4 : (drawn (places (owner 4294967295 ∷ [])) 4294967295 ≡ 1) × (drawn (places (owner 4294967295 ∷ joiner 1 ∷ [])) 4294967295 ≡ 2)
+unfolding drawn
+p4 = (refl, refl)
+
+-- "the lowest free place", ID and frontend: in a gap, and where there is none
+pub places-free : (lowestPlace (places (owner 1 ∷ noSession ∷ joiner 2 ∷ [])) ≡ 1) × (lowestPlace (replicate 32 (owner 1)) ≡ 32) × (placeOf 2 (places (owner 1 ∷ noSession ∷ joiner 2 ∷ [])) ≡ 2)
+places-free = (refl, refl, refl)
+
+pub ids-free : (lowestId (rows (blank 2 ∷ [])) ≡ 2) × (lowestId (replicate 8 (blank 1)) ≡ 9)
+ids-free = (refl, refl)
+
+pub frontends-free : (lowestFrontend 2 (rows (blank 2 ∷ [])) ≡ 1) × (lowestFrontend 2 (rows (blank 1 ∷ [])) ≡ 2) × (lowestFrontend 2 (rows (blank 2 ∷ blank 1 ∷ [])) ≡ 3)
+unfolding lowestFrontend
+frontends-free = (refl, refl, refl)
+
+-- making a box: F is 1 to 8, C is 1,024 to 65,536 and a multiple of 16
+pub made : (madeOf 1 1024 .outcome ≡ Done) × (madeOf 8 65536 .outcome ≡ Done) × (madeOf 2 1040 .outcome ≡ Done)
+unfolding madeOf
+made = (refl, refl, refl)
+
+pub not-made : (madeOf 0 1024 .outcome ≡ Refused Sizes) × (madeOf 9 1024 .outcome ≡ Refused Sizes) × (madeOf 2 1008 .outcome ≡ Refused Sizes) × (madeOf 2 1032 .outcome ≡ Refused Sizes) × (madeOf 2 65552 .outcome ≡ Refused Sizes)
+unfolding madeOf
+not-made = (refl, refl, refl, refl, refl)
+
+-- a box with F = 2 and C = 1,024
+abbrev pub box : ℕ → ℕ → List Session → List Stream → SatBox
+box held clock l ms =
+    record { sessions = places l; streams = rows ms; size = 1024; held = held; clock = clock; sequence = 0; frontends = 2 }
+
+pub record WellFormed : Type 0 where
+  pub fresh-box : wellFormed (fresh 2 1024) ≡ true
+  pub joined : wellFormed (box 0 10 (owner 1 ∷ joiner 2 ∷ []) (blank 1 ∷ [])) ≡ true
+  -- EDGES 1.4: long expired; and an ID above F
+  pub expired : wellFormed (box 0 100000 (owner 1 ∷ []) (blank 1 ∷ [])) ≡ true
+  pub third : wellFormed (box 0 10 (session 1 3 1 10 5000 ∷ []) (noStream ∷ noStream ∷ blank 2 ∷ [])) ≡ true
+  -- EDGES 1.5: held + 16 × open = C
+  pub filled : wellFormed (box 992 10 (owner 1 ∷ joiner 2 ∷ []) (blank 1 ∷ [])) ≡ true
+
+pub record IllFormed : Type 0 where
+  pub overfilled : wellFormed (box 1008 10 (owner 1 ∷ joiner 2 ∷ []) (blank 1 ∷ [])) ≡ false
+  pub no-record : wellFormed (box 8 10 (owner 1 ∷ []) (blank 1 ∷ [])) ≡ false
+  pub one-number : wellFormed (box 0 10 (owner 1 ∷ joiner 1 ∷ []) (blank 1 ∷ [])) ≡ false
+  pub past-clock : wellFormed (box 0 9 (owner 1 ∷ []) (blank 1 ∷ [])) ≡ false
+  pub odd-port : wellFormed (box 0 10 (session 1 1 1 10 5001 ∷ []) (blank 1 ∷ [])) ≡ false
+  pub dead-stream : wellFormed (box 0 10 (owner 1 ∷ session 2 2 0 10 5002 ∷ []) (blank 1 ∷ [])) ≡ false
+  pub no-stream : wellFormed (box 0 10 (owner 1 ∷ session 2 0 0 10 5002 ∷ []) (blank 1 ∷ [])) ≡ false
+  pub no-owner : wellFormed (box 0 10 (joiner 1 ∷ []) (blank 1 ∷ [])) ≡ false
+  pub two-owners : wellFormed (box 0 10 (owner 1 ∷ owner 2 ∷ []) (blank 1 ∷ [])) ≡ false
+  pub one-frontend : wellFormed (box 0 10 (owner 1 ∷ session 2 2 1 10 5002 ∷ []) (blank 1 ∷ blank 1 ∷ [])) ≡ false
+  pub past-frontends : wellFormed (box 0 10 (owner 1 ∷ []) (blank 3 ∷ [])) ≡ false
+  pub not-zeros : wellFormed (box 0 10 (remnant ∷ []) []) ≡ false
+
+pub well-formed : WellFormed
+unfolding wellFormed isSeated isEmpty isSound areZero areNone areInRange isInRange goTogether isChoice
+well-formed = record { fresh-box = refl; joined = refl; expired = refl; third = refl; filled = refl }
+
+pub ill-formed : IllFormed
+unfolding wellFormed isSeated isEmpty isSound areZero areNone areInRange isInRange goTogether isChoice
+ill-formed =
+    record {
+      overfilled = refl;
+      no-record = refl;
+      one-number = refl;
+      past-clock = refl;
+      odd-port = refl;
+      dead-stream = refl;
+      no-stream = refl;
+      no-owner = refl;
+      two-owners = refl;
+      one-frontend = refl;
+      past-frontends = refl;
+      not-zeros = refl;
+    }
