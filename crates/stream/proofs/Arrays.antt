@@ -10,14 +10,7 @@ use lib.ListN.{length, getD, drop}
 use Rattle.scan.specs.Lists.{all}
 use Rattle.scan.proofs.Loops.{turn, end}
 use Rattle.stream.specs.Pids.{isZero, isPadded}
-
-and-and : (a b c : Bool) → a && (b && c) ≡ (a && b) && c
-and-and true b c = refl
-and-and false b c = refl
-
-and-true : (a : Bool) → a && true ≡ a
-and-true true = refl
-and-true false = refl
+use Rattle.stream.proofs.Bools.{and-and, and-true, and-false}
 
 -- z says whether the places looked at so far, from `from` up to i, are zeros
 pub record Zeros (l : List ℕ) (from i : ℕ) (z : Bool) : Type 0 where
@@ -39,10 +32,6 @@ pub record Ascending (l : List ℕ) (count least i : ℕ) : Type 0 where
   pub order : i ≤ count
   pub small : least ≤ 8192
   pub same : isPadded (count - i) least (drop i l) ≡ isPadded count 0 l
-
-and-false : (a : Bool) → a && false ≡ false
-and-false true = refl
-and-false false = refl
 
 -- an array is too short for more PIDs than it has places
 pub padded-long : (count n : ℕ) (l : List ℕ) → length l < count → false ≡ isPadded count n l

@@ -17,17 +17,22 @@ use Rattle.stream.specs.Arrays.{There, Missing, Placed, Front, Held, onc
 use Rattle.stream.specs.declared.Place.{Place}
 use Rattle.stream.specs.declared.Place.the-variants.{At, Before}
 
--- a PID is at most 8191
-pub pid-most : (xs : List ℕ) {v : ℕ} → readPid xs ≡ Value v → v ≤ 8191
+-- a number is at most its limit
+pub read-most : (most limit : ℕ) (xs : List ℕ) {v : ℕ} → readNumber Allowed most limit xs ≡ Value v → v ≤ limit
 unfolding readNumber
-pid-most xs {v} e = by (leb 1 (length xs)) (leb (length xs) 5) (areDigits 10 xs) (leb (spelled 10 xs) 8191) (leb-true (spelled 10 xs) 8191) e
+read-most most limit xs {v} e =
+    by (leb 1 (length xs)) (leb (length xs) most) (areDigits 10 xs) (leb (spelled 10 xs) limit) (leb-true (spelled 10 xs) limit) e
   where
-    by : (a b c d : Bool) {n : ℕ} → (d ≡ true → n ≤ 8191) → cond (a && (b && (c && d))) (Value n) Nothing ≡ Value v → v ≤ 8191
+    by : (a b c d : Bool) {n : ℕ} → (d ≡ true → n ≤ limit) → cond (a && (b && (c && d))) (Value n) Nothing ≡ Value v → v ≤ limit
     by true true true true {n} h q = let k : n ≡ v = cc in omega (arith, h refl)
     by true true true false h q = let z : _≡_ {A = ℕ} 0 1 = cc in absurd (omega arith)
     by true true false d h q = let z : _≡_ {A = ℕ} 0 1 = cc in absurd (omega arith)
     by true false c d h q = let z : _≡_ {A = ℕ} 0 1 = cc in absurd (omega arith)
     by false b c d h q = let z : _≡_ {A = ℕ} 0 1 = cc in absurd (omega arith)
+
+-- so is a PID
+pub pid-most : (xs : List ℕ) {v : ℕ} → readPid xs ≡ Value v → v ≤ 8191
+pid-most xs e = read-most 5 8191 xs e
 
 -- nothing is changed
 pub front-same : (a : List ℕ) (count : ℕ) {l : List ℕ} → l ≡ take count a → count ≤ 32 → Front l a count

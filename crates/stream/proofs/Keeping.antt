@@ -5,23 +5,26 @@ use mathlib.Core.List.{List, [], _∷_}
 use Prim.Native.Nat.{ℕ, _-_, _≤_}
 use native.Mathlib.Omega.{arith}
 use lib.Dec.{eqb, leb, ltb}
-use lib.ListN.{length, getD, take}
-use borrow.Author.Tests.{le-leb, ltb-false, eqb-true, not-true, not-false}
+use lib.ListN.{length, getD, take, replicate, length-append, length-replicate}
+use lib.Seq.{length-take-le}
+use borrow.Author.Tests.{le-leb, leb-true, eqb-true, eqb-false, le-ltb, ltb-false, not-true, not-false}
 use Rattle.scan.specs.Lists.{all}
 use Rattle.scan.specs.Cut.{cut}
 use Rattle.scan.proofs.Bools.{never, and-both, by-test}
 use Rattle.digits.specs.declared.Read.{Read}
 use Rattle.digits.specs.declared.Read.the-variants.{Value, Nothing}
-use Rattle.stream.specs.Values.{isInRange, areInRange, goTogether, given, kept, isFit, areFit, merged}
-use Rattle.stream.specs.Pids.{isIn, isLow, rises, added, removed, readPid, withNumber, numbersOf, numbersIn, obeyed, addedAll, removedAll, withText, Choice, replaced, edited, chosen, areTooMany, choiceOf, laidOut, isPadded, isChoice}
+use Rattle.stream.specs.Values.{goTogether, areFit, merged}
+use Rattle.stream.specs.Pids.{isLow, rises, added, removed, readPid, withNumber, numbersOf, numbersIn, obeyed, addedAll, Choice, replaced, edited, chosen, areTooMany, choiceOf, laidOut, isPadded, isChoice}
 use Rattle.stream.specs.Streams.{isSound}
 use Rattle.stream.specs.Merging.{chosenBy, changed, mergeOf}
 use Rattle.stream.specs.declared.Values.{Values}
 use Rattle.stream.specs.declared.Stream.{Stream}
 use Rattle.stream.specs.declared.Change.{Change}
 use Rattle.stream.specs.declared.Outcome.the-variants.{Merged, Combination, TooMany}
+use Rattle.stream.proofs.Bools.{both-and}
 use Rattle.stream.proofs.Edits.{pid-most}
-use Rattle.stream.proofs.PidSets.{both-and, rises-added-all, rises-removed-all, all-added-all, all-removed-all}
+use Rattle.stream.proofs.Fitting.{merged-ranged}
+use Rattle.stream.proofs.PidSets.{rises-added-all, rises-removed-all, all-added-all, all-removed-all}
 use Rattle.stream.proofs.Padding.{Padded, padded-is, padded-laid}
 use Rattle.stream.proofs.Soundness.{Live, sound-live, live-sound}
 
@@ -103,30 +106,6 @@ fine-choice m v {c} h e = by (c .all) (h .bare)
     by true b = rw (b refl) refl
     by false b = laid
 
--- values in range stay in range
-pub all-in : (q : ℕ → Bool) (l : List ℕ) (a : ℕ) → all q l ≡ true → isIn a l ≡ true → q a ≡ true
-all-in q [] a e h = never h refl
-all-in q (x ∷ l) a e h =
-    let b = and-both (q x) (all q l) e in
-    by-test (λ t. t || isIn a l ≡ true → q a ≡ true) (eqb a x)
-    (λ y z. rw (eqb-true a x y) (b .0))
-    (λ n z. all-in q l a (b .1) z) h
-
-given-ranged : (attribute code old : ℕ) → isFit attribute code ≡ true → isInRange attribute old ≡ true → isInRange attribute (given code old) ≡ true
-given-ranged attribute code old f h =
-    by-test (λ t. t || isInRange attribute code ≡ true → isInRange attribute (cond t old code) ≡ true) (eqb code 0) (λ y z. h) (λ n z. z) f
-
-keeping : {a b c d : Bool} → (a ≡ true → b ≡ true) → (c ≡ true → d ≡ true) → a && c ≡ true → b && d ≡ true
-keeping {a} {b} {c} {d} f g e = let x = and-both a c e in both-and (f (x .0)) (g (x .1))
-
-pub merged-ranged : (v : Values) (codes : List ℕ) → areFit codes ≡ true → areInRange v ≡ true → areInRange (merged v codes) ≡ true
-unfolding areFit areInRange merged
-merged-ranged v codes f =
-    keeping (keeping (keeping (keeping (keeping (keeping (keeping (keeping (one 0 refl (v .src)) (one 2 refl (v .freq))) (one 3 refl (v .pol))) (one 4 refl (v .msys))) (one 5 refl (v .mtype))) (one 6 refl (v .plts))) (one 7 refl (v .ro))) (one 8 refl (v .sr))) (one 9 refl (v .fec))
-  where
-    one : (a : ℕ) → isIn a kept ≡ true → (old : ℕ) → isInRange a old ≡ true → isInRange a (given (getD codes a 0) old) ≡ true
-    one a k old h = given-ranged a (getD codes a 0) old (all-in (λ b. isFit b (getD codes b 0)) kept a f k) h
-
 -- a query by the two rules that may refuse it, and the stream m or, where neither does, x
 module _ (m x : Stream) where
   abbrev settled : Bool → Bool → Change
@@ -146,6 +125,14 @@ module _ (m x : Stream) where
   settled-frontend true t e = refl
   settled-frontend false true e = refl
   settled-frontend false false e = e
+
+  settled-long : (s t : Bool) → length (m .pids) ≡ 32 → (t ≡ false → length (x .pids) ≡ 32) → length (settled s t .stream .pids) ≡ 32
+  settled-long true t h f = h
+  settled-long false true h f = h
+  settled-long false false h f = f refl
+
+laid-long : (l : List ℕ) → ltb 32 (length l) ≡ false → length (laidOut l) ≡ 32
+laid-long l e = simp (length-append, length-replicate) (omega (arith, ltb-false 32 (length l) e))
 
 module _ (m : Stream) (codes pids delpids addpids : List ℕ) where
   abbrev values : Values
@@ -184,7 +171,57 @@ module _ (m : Stream) (codes pids delpids addpids : List ℕ) where
   unfolding mergeOf changed
   merge-frontend = settled-frontend m (changed m values choice) (not (goTogether values)) (areTooMany choice) refl
 
+  pub merge-long : length (m .pids) ≡ 32 → length (mergeOf m codes pids delpids addpids .stream .pids) ≡ 32
+  unfolding mergeOf changed
+  merge-long h = settled-long m (changed m values choice) (not (goTogether values)) (areTooMany choice) h (laid-long (choice .list))
+
   -- "a status other than 200 changes nothing"
   pub merge-refused : (mergeOf m codes pids delpids addpids .outcome ≡ Merged → ⊥) → mergeOf m codes pids delpids addpids .stream ≡ m
   unfolding mergeOf
   merge-refused = settled-refused m (changed m values choice) (not (goTogether values)) (areTooMany choice)
+
+-- a query that gives nothing
+no-values : (v : Values) → merged v (replicate 13 0) ≡ v
+unfolding merged
+no-values v = refl
+
+edited-none : (edit : ℕ → List ℕ → List ℕ) (text : List ℕ) (c : Choice) → edited edit 0 text c ≡ c
+edited-none edit text c =
+    by-test (λ t. c .all ≡ t → cond t c (record { all = false; list = c .list }) ≡ c) (c .all) (λ y z. refl)
+    (λ n z. ap (λ t. record { all = t; list = c .list }) (sym z)) refl
+
+no-pids : (m : Stream) (pids delpids addpids : List ℕ) → chosenBy m (replicate 13 0) pids delpids addpids ≡ choiceOf m
+unfolding chosen
+no-pids m pids delpids addpids = edited-none added addpids (edited removed 0 delpids (choiceOf m)) ∙ edited-none removed delpids (choiceOf m)
+
+-- a sound stream lies as its own PIDs are laid out, so that a query that gives nothing changes nothing
+module _ (m : Stream) (sound : isChoice m ≡ true) (long : length (m .pids) ≡ 32) where
+  as-padded : Padded (m .count) 0 (m .pids)
+  unfolding isChoice
+  as-padded =
+      let a = and-both (leb (m .all) 1) ((eqb (m .all) 0 || eqb (m .count) 0) && isPadded (m .count) 0 (m .pids)) sound in
+      padded-is (m .count) 0 (m .pids) (and-both (eqb (m .all) 0 || eqb (m .count) 0) (isPadded (m .count) 0 (m .pids)) (a .1) .1)
+
+  as-many : length (take (m .count) (m .pids)) ≡ m .count
+  as-many = length-take-le (m .count) (m .pids) (as-padded .fits)
+
+  as-flag : cond (not (eqb (m .all) 0)) 1 0 ≡ m .all
+  unfolding isChoice
+  as-flag =
+      let a = and-both (leb (m .all) 1) ((eqb (m .all) 0 || eqb (m .count) 0) && isPadded (m .count) 0 (m .pids)) sound in
+      by-test (λ t. cond (not t) 1 0 ≡ m .all) (eqb (m .all) 0) (λ y. sym (eqb-true (m .all) 0 y))
+      (λ n. let z = eqb-false (m .all) 0 n in omega (arith, leb-true (m .all) 1 (a .0)))
+
+  as-laid : laidOut (take (m .count) (m .pids)) ≡ m .pids
+  as-laid = rw as-many (sym (rw long at (as-padded .zeros)))
+
+  same-changed : changed m (m .values) (choiceOf m) ≡ m
+  unfolding changed
+  same-changed = rw (as-laid, as-many, as-flag)
+
+  pub merge-nothing : (pids delpids addpids : List ℕ) → goTogether (m .values) ≡ true → mergeOf m (replicate 13 0) pids delpids addpids ≡ record { stream = m; outcome = Merged }
+  unfolding mergeOf
+  merge-nothing pids delpids addpids g =
+      let q : merged (m .values) (replicate 13 0) ≡ m .values = no-values (m .values) in
+      let k : m .count ≤ length (m .pids) = as-padded .fits in
+      rw (q, g, no-pids m pids delpids addpids, as-many, le-ltb 32 (m .count) (omega arith), same-changed)

@@ -1,3 +1,4 @@
+pub mod Bools
 pub mod Arrays
 pub mod Soundness
 pub mod Places
@@ -7,4 +8,5 @@ pub mod Texts
 pub mod Merges
 pub mod PidSets
 pub mod Padding
+pub mod Fitting
 pub mod Keeping

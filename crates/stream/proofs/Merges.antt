@@ -8,7 +8,7 @@ use native.Mathlib.Decide.{decLt}
 use lib.Dec.{eqb}
 use lib.ListN.{length, take, getD}
 use lib.Seq.{take-all}
-use borrow.Author.Tests.{eq-eqb, ne-eqb, lt-ltb, le-ltb, not-true, not-false}
+use borrow.Author.Tests.{eq-eqb, ne-eqb, lt-ltb, le-ltb}
 use Rattle.scan.proofs.Bools.{by-cases}
 use Rattle.stream.specs.Values.{merged, goTogether}
 use Rattle.stream.specs.Pids.{added, removed, addedAll, numbersIn, withText, replaced, edited, chosen, choiceOf, laidOut}
@@ -17,7 +17,6 @@ use Rattle.stream.specs.Merging.{Chosen, chosenBy, changed, mergeOf}
 use Rattle.stream.specs.declared.Values.{Values}
 use Rattle.stream.specs.declared.Stream.{Stream}
 use Rattle.stream.specs.declared.Pids.{Pids}
-use Rattle.stream.specs.declared.Change.{Change}
 use Rattle.stream.specs.declared.Outcome.the-variants.{Merged, Combination, TooMany}
 use Rattle.stream.proofs.Edits.{front-same, held-front}
 

@@ -1,17 +1,17 @@
 -- A list of PIDs as it lies in an array, with zeros after it: the rule of a place's array says that it is such a list. Assumes nothing.
-use mathlib.Core.Path.{_≡_, refl, ap, ap₂, _∙_, sym}
-use mathlib.Core.Bool.{Bool, true, false, _&&_}
+use mathlib.Core.Path.{_≡_, refl, ap, ap₂}
+use mathlib.Core.Bool.{true, _&&_}
 use mathlib.Core.List.{List, [], _∷_, _++_}
 use Prim.Native.Nat.{ℕ, zero, suc, _-_, _≤_}
 use native.Mathlib.Nat.{sub-zero, suc-sub-suc}
 use native.Mathlib.Omega.{arith}
-use lib.Dec.{eqb, leb}
+use lib.Dec.{leb}
 use lib.ListN.{length, take, replicate}
 use borrow.Author.Tests.{eqb-true}
 use Rattle.scan.specs.Lists.{all}
 use Rattle.scan.proofs.Bools.{never, and-both}
 use Rattle.stream.specs.Pids.{isZero, isLow, rises, isPadded}
-use Rattle.stream.proofs.PidSets.{both-and}
+use Rattle.stream.proofs.Bools.{both-and}
 
 zeros-padded : (n k : ℕ) → isPadded 0 n (replicate k 0) ≡ true
 zeros-padded n zero = refl

@@ -11,9 +11,7 @@ use borrow.Author.Tests.{leb-true, le-leb, ltb-true, ltb-false, eqb-true, eqb-fa
 use Rattle.scan.specs.Lists.{all}
 use Rattle.scan.proofs.Bools.{never, and-both, by-test, by-cases}
 use Rattle.stream.specs.Pids.{rises, isIn, added, removed, addedAll, removedAll}
-
-pub both-and : {a b : Bool} → a ≡ true → b ≡ true → a && b ≡ true
-both-and {a} {b} p q = rw (p, q)
+use Rattle.stream.proofs.Bools.{and-true, and-false, both-and, or-swap, or-same}
 
 -- a list ascends from any lower start
 pub rises-from : (n m : ℕ) (l : List ℕ) → n ≤ m → rises m l ≡ true → rises n l ≡ true
@@ -83,15 +81,6 @@ module _ (q : ℕ → Bool) where
   all-removed-all (p ∷ ps) l e = all-removed-all ps (removed p l) (all-removed p l e)
 
 -- what is in a list with one PID more, and in an ascending list with one PID less
-or-swap : (a b c : Bool) → a || (b || c) ≡ b || (a || c)
-or-swap true true c = refl
-or-swap true false c = refl
-or-swap false b c = refl
-
-or-same : (a c : Bool) → a || c ≡ a || (a || c)
-or-same true c = refl
-or-same false c = refl
-
 pub in-added : (x p : ℕ) (l : List ℕ) → isIn x (added p l) ≡ eqb x p || isIn x l
 in-added x p [] = refl
 in-added x p (q ∷ l) =
@@ -117,25 +106,17 @@ in-removed x p n (q ∷ l) e =
     (λ y. let k : p < q = ltb-true p q y in
     by-test (λ t. eqb x q || isIn x l ≡ (eqb x q || isIn x l) && not t) (eqb x p)
     (λ z. let h : x ≡ p = eqb-true x p z in rw (ne-eqb x q (λ w. omega arith), in-below (suc q) x l (a .1) (omega arith)))
-    (λ z. sym (and-yes (eqb x q || isIn x l))))
+    (λ z. sym (and-true (eqb x q || isIn x l))))
     (λ m. by-test (λ t. isIn x (cond t l (q ∷ removed p l)) ≡ (eqb x q || isIn x l) && not (eqb x p)) (eqb p q)
     (λ y. let h : p ≡ q = eqb-true p q y in
     by-test (λ t. isIn x l ≡ (eqb x q || isIn x l) && not t) (eqb x p)
-    (λ z. let w : x ≡ p = eqb-true x p z in in-below (suc q) x l (a .1) (omega arith) ∙ sym (and-no (eqb x q || isIn x l)))
-    (λ z. let w = eqb-false x p z in rw (ne-eqb x q (λ v. omega arith)) (sym (and-yes (isIn x l)))))
+    (λ z. let w : x ≡ p = eqb-true x p z in in-below (suc q) x l (a .1) (omega arith) ∙ sym (and-false (eqb x q || isIn x l)))
+    (λ z. let w = eqb-false x p z in rw (ne-eqb x q (λ v. omega arith)) (sym (and-true (isIn x l)))))
     (λ d. let h = eqb-false p q d in
     rw (in-removed x p (suc q) l (a .1))
     (by-test (λ t. t || (isIn x l && not (eqb x p)) ≡ (t || isIn x l) && not (eqb x p)) (eqb x q)
     (λ z. let w : x ≡ q = eqb-true x q z in rw (ne-eqb x p (λ v. omega arith)))
     (λ z. refl))))
-  where
-    and-yes : (t : Bool) → t && true ≡ t
-    and-yes true = refl
-    and-yes false = refl
-
-    and-no : (t : Bool) → t && false ≡ false
-    and-no true = refl
-    and-no false = refl
 
 -- two ascending lists with the same PIDs in them are the same
 first-in : (p : ℕ) (k : List ℕ) → isIn p (p ∷ k) ≡ true

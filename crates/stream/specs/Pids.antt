@@ -56,7 +56,7 @@ numbersOf (piece ∷ pieces) = withNumber (readPid piece) (numbersOf pieces)
 unfoldable pub numbersIn : List ℕ → List ℕ
 numbersIn text = numbersOf (cut 44 text)
 
--- one after the other
+-- PIDs added, or removed, one after the other
 abbrev pub obeyed : (ℕ → List ℕ → List ℕ) → List ℕ → List ℕ → List ℕ
 obeyed edit [] l = l
 obeyed edit (p ∷ ps) l = obeyed edit ps (edit p l)
@@ -103,13 +103,14 @@ choiceOf m = record { all = not (eqb (m .all) 0); list = take (m .count) (m .pid
 abbrev pub laidOut : List ℕ → List ℕ
 laidOut l = l ++ replicate (most - length l) 0
 
+-- what may stand after the PIDs, and what a PID may be: "0 to 8191"
 abbrev pub isZero : ℕ → Bool
 isZero p = eqb p 0
 
 abbrev pub isLow : ℕ → Bool
 isLow p = leb p highest
 
--- a place's array from some PID on: `count` PIDs, ascending from n, "0 to 8191", and then zeros
+-- a place's array from some place on: `count` PIDs that ascend, none below n, and then zeros
 abbrev pub isPadded : ℕ → ℕ → List ℕ → Bool
 isPadded zero n l = all isZero l
 isPadded (suc count) n [] = false
