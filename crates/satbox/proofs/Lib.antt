@@ -7,3 +7,5 @@ pub mod Openings
 pub mod OpeningKeeps
 pub mod CallLaws
 pub mod OrderLaws
+pub mod RecordLaws
+pub mod Kept

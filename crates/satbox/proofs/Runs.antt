@@ -7,7 +7,7 @@ use native.Mathlib.Omega.{arith}
 use lib.ListN.{length, getD, set, take, drop, length-map, drop-of-length-le}
 use lib.Seq.{set-at, getD-at, take-suc, drop-cons, length-take-le, take-all}
 use Rattle.table.specs.declared.SatBox.{SatBox}
-use Rattle.satbox.specs.Did.{Did, upto}
+use Rattle.satbox.specs.Did.{Did, nothing, then, upto}
 
 pub upto-keeps : (f : ℕ → SatBox → Did) (P : SatBox → Type 0) (m : ℕ) → ((i : ℕ) (t : SatBox) → i < m → P t → P (f i t .satbox)) → (t : SatBox) → P t → (n : ℕ) → n ≤ m → P (upto f n t .satbox)
 unfolding upto
@@ -32,3 +32,12 @@ module _ {A : Type 0} (f : ℕ → SatBox → Did) (part : SatBox → List A) (g
   pub upto-map : (n : ℕ) → length (part t) ≡ n → part (upto f n t .satbox) ≡ map g (part t)
   upto-map n h =
       upto-part n (omega arith) ∙ rw (take-all n (part t) (omega arith), drop-of-length-le (part t) {i = n} (omega arith)) (append-nil (map g (part t)))
+
+-- what holds of nothing done, and of two operations in a row, holds of a run of operations each of which it holds of
+module _ (P : SatBox → Type 0) (R : SatBox → Did → Type 0) (nil : (t : SatBox) → R t (nothing t)) (seq : (t : SatBox) (d : Did) (f : SatBox → Did) → R t d → R (d .satbox) (f (d .satbox)) → R t (then d f)) where
+  pub upto-holds : (f : ℕ → SatBox → Did) (m : ℕ) → ((i : ℕ) (t : SatBox) → i < m → P t → P (f i t .satbox)) → ((i : ℕ) (t : SatBox) → i < m → P t → R t (f i t)) → (t : SatBox) → P t → (n : ℕ) → n ≤ m → R t (upto f n t)
+  unfolding upto
+  upto-holds f m keeps holds t p zero h = nil t
+  upto-holds f m keeps holds t p (suc n) h =
+      seq t (upto f n t) (f n) (upto-holds f m keeps holds t p n (omega arith))
+      (holds n (upto f n t .satbox) (omega arith) (upto-keeps f P m keeps t p n (omega arith)))

@@ -1,0 +1,83 @@
+-- A table that is well formed stays so: a fresh box is, and whatever a tick, a collection, a merged query, an opening or a closing leaves.
+-- Assumes nothing.
+use mathlib.Core.Path.{_≡_, refl, sym, _∙_, ap}
+use mathlib.Core.Bool.{Bool, true}
+use mathlib.Core.List.{List, _∷_}
+use Prim.Native.Nat.{ℕ, _+_, _*_, _%_}
+use native.Mathlib.Omega.{arith}
+use lib.ListN.{length, getD}
+use Rattle.stream.specs.Streams.{pastStream, isSound}
+use Rattle.stream.specs.declared.Stream.{Stream}
+use Rattle.table.specs.Table.{streamOf, withStream}
+use Rattle.table.specs.Formed.{areSizes, wellFormed}
+use Rattle.table.specs.Made.{fresh}
+use Rattle.table.specs.declared.SatBox.{SatBox}
+use Rattle.table.specs.declared.Outcome.{Outcome}
+use Rattle.table.specs.declared.Outcome.the-variants.{Done, Refused}
+use Rattle.table.proofs.Rules.{Seats, formed, formed-back}
+use Rattle.table.proofs.Changes.{seats-fed, rows-fed, by-id}
+use Rattle.table.proofs.Fresh.{fresh-formed}
+use Rattle.satbox.specs.Did.{restreamed}
+use Rattle.satbox.specs.Closing.{sweeping, atClock}
+use Rattle.satbox.specs.Calls.{ifDone, ticked, tickOutcome, emptied, collected, collectOutcome}
+use Rattle.satbox.proofs.Closings.{with-length}
+use Rattle.satbox.proofs.Keeping.{Whole, swept-whole, clock-whole}
+
+-- the test that the code computes, from the rules and back
+pub whole-formed : (t : SatBox) → Whole t → wellFormed t ≡ true
+whole-formed t w = formed-back t (w .formed)
+
+-- A FRESH BOX
+pub fresh-whole : (frontends size : ℕ) → areSizes frontends size ≡ true → Whole (fresh frontends size)
+fresh-whole frontends size e = record { formed = formed (fresh frontends size) (fresh-formed frontends size e); places = refl; rows = refl }
+
+-- a call that was refused leaves its table alone
+done-keeps : (o : Outcome) (t u : SatBox) → Whole t → Whole u → Whole (ifDone o u t)
+done-keeps Done t u w v = v
+done-keeps (Refused r) t u w v = w
+
+-- A TICK
+pub sweeping-whole : (clock : ℕ) (t : SatBox) → Whole t → Whole (sweeping clock t .satbox)
+sweeping-whole clock t w = swept-whole (atClock clock t) (clock-whole clock t w)
+
+pub tick-whole : (clock : ℕ) (t : SatBox) (j : List ℕ) → Whole t → Whole (ticked clock t j .satbox)
+unfolding ticked
+tick-whole clock t j w = done-keeps (tickOutcome t j) t (sweeping clock t .satbox) w (sweeping-whole clock t w)
+
+-- A COLLECTION
+emptied-whole : (t : SatBox) → Whole t → Whole (emptied t)
+unfolding emptied
+emptied-whole t w =
+    record {
+      formed =
+          record {
+            sizes = w .formed .sizes;
+            seats = w .formed .seats;
+            rows = w .formed .rows;
+            proper = w .formed .proper;
+            fits = record { whole = refl; bound = omega (arith, w .formed .fits .bound) };
+          };
+      places = w .places;
+      rows = w .rows;
+    }
+
+pub collect-whole : (t : SatBox) (j b : List ℕ) → Whole t → Whole (collected t j b .satbox)
+unfolding collected
+collect-whole t j b w = done-keeps (collectOutcome t j b) t (emptied t) w (emptied-whole t w)
+
+-- A QUERY MERGED into a live stream, which keeps its frontend
+pub restreamed-whole : (id : ℕ) (m : Stream) (t : SatBox) → Whole t → (id ≡ 0 → ⊥) → isSound (t .frontends) m ≡ true → m .frontend ≡ streamOf t id .frontend → Whole (restreamed id m t)
+unfolding restreamed
+restreamed-whole id m t w h good e =
+    record {
+      formed =
+          record {
+            sizes = w .formed .sizes;
+            seats = rw (by-id (t .streams) id m h) (seats-fed (t .sessions) (pastStream ∷ t .streams) (w .formed .seats) id m e);
+            rows = rows-fed (t .frontends) (t .streams) (w .formed .rows) id m good e;
+            proper = w .formed .proper;
+            fits = w .formed .fits;
+          };
+      places = w .places;
+      rows = with-length id m (t .streams) ∙ w .rows;
+    }
