@@ -127,7 +127,7 @@ module _ (cause i : ℕ) (t : SatBox) (h : Closable t i) (w : Whole t) where
   pub closing-whole : Whole (closing cause i t .satbox)
   closing-whole = closing-by (sames _ _)
 
-sweepAt-whole : (i : ℕ) (t : SatBox) → i < 32 → Whole t → Whole (sweepAt i t .satbox)
+pub sweepAt-whole : (i : ℕ) (t : SatBox) → i < 32 → Whole t → Whole (sweepAt i t .satbox)
 unfolding sweepAt
 sweepAt-whole i t h w =
     cond-keeps (λ d. Whole (d .satbox)) (isExpired (t .clock) (sessionAt t i)) (closing 2 i t) (nothing t)

@@ -9,3 +9,5 @@ pub mod CallLaws
 pub mod OrderLaws
 pub mod RecordLaws
 pub mod Kept
+pub mod Leaving
+pub mod Recorded

@@ -7,13 +7,13 @@ use Prim.Native.Nat.{ℕ, zero, suc, _+_, _-_, _%_, _≤_, _<_}
 use native.Mathlib.Omega.{arith}
 use lib.Dec.{eqb, leb}
 use lib.ListN.{length}
-use borrow.Author.Tests.{eqb-true, leb-true, lt-leb, le-leb, eq-eqb, ne-eqb}
+use borrow.Author.Tests.{eqb-true, eqb-false, leb-true, lt-leb, le-leb, eq-eqb, ne-eqb}
 use Rattle.scan.proofs.Bools.{never}
 use Rattle.table.specs.Counts.{bit, count, any}
 use Rattle.table.specs.Table.{noSession, has}
 use Rattle.table.specs.Finding.{isTaken, nextNumber, drawnFrom, drawn}
 use Rattle.table.specs.declared.Session.{Session}
-use Rattle.table.proofs.Counts.{Case, case, is, isnt, Same, sames, same, other, or-second, count-le, count-length}
+use Rattle.table.proofs.Counts.{Case, case, is, isnt, Same, sames, same, other, or-second, or-neither, count-le, count-length}
 
 -- what passes q passes p, and an element that passes r passes p and not q: there are more of p
 count-lt : {A : Type 0} (p q r : A → Bool) → ((a : A) → q a ≡ true → p a ≡ true) → ((a : A) → r a ≡ true → bit (q a) < bit (p a)) → (l : List A) → any r l ≡ true → count q l < count p l
@@ -132,6 +132,13 @@ drawing-free {l} {draw} (suc more) n d = by (case (isTaken l n)) (drawing-free m
     by (is y) next = next (drawing-suc d y)
     by (isnt z) next = free-end d z
 
--- "the first non-zero number not open": what is drawn is neither
-pub drawn-free : (l : List Session) (draw : ℕ) → length l ≡ 32 → draw < 4294967296 → isTaken l (drawn l draw) ≡ false
-drawn-free l draw long h = drawing-free 33 draw (drawing-start l draw long h)
+-- "the first non-zero number not open": what is drawn is neither 0 nor open
+module _ (l : List Session) (draw : ℕ) (long : length l ≡ 32) (h : draw < 4294967296) where
+  pub drawn-free : isTaken l (drawn l draw) ≡ false
+  drawn-free = drawing-free 33 draw (drawing-start l draw long h)
+
+  pub drawn-nonzero : drawn l draw ≡ 0 → ⊥
+  drawn-nonzero = eqb-false (drawn l draw) 0 (or-neither (eqb (drawn l draw) 0) (any (has (drawn l draw)) l) drawn-free .0)
+
+  pub drawn-new : any (has (drawn l draw)) l ≡ false
+  drawn-new = or-neither (eqb (drawn l draw) 0) (any (has (drawn l draw)) l) drawn-free .1

@@ -1,4 +1,5 @@
--- `table::finding::draw` meets its contract. Invariant: every number that was passed is taken, and no place before i has this one. Assumes nothing.
+-- `table::finding::draw` meets its contract. Invariant: every number that was passed is taken, and no place before i has this one.
+-- Assumes nothing.
 use mathlib.Core.Path.{_≡_, sym}
 use mathlib.Core.Logic.{⊎-elim}
 use mathlib.Core.Bool.{true}
