@@ -14,8 +14,8 @@ use Rattle.digits.specs.declared.Read.the-variants.{Value, Nothing}
 use Rattle.digits.specs.declared.Zeros.the-variants.{Allowed}
 use Rattle.stream.specs.Pids.{added, removed, readPid}
 use Rattle.stream.specs.Arrays.{There, Missing, Placed, Front, Held, once}
-use Rattle.stream.specs.declared.Place.{Place}
-use Rattle.stream.specs.declared.Place.the-variants.{At, Before}
+use Rattle.stream.specs.declared.pids.Place.{Place}
+use Rattle.stream.specs.declared.pids.Place.the-variants.{At, Before}
 
 -- a number is at most its limit
 pub read-most : (most limit : ℕ) (xs : List ℕ) {v : ℕ} → readNumber Allowed most limit xs ≡ Value v → v ≤ limit

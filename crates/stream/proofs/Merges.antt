@@ -16,7 +16,7 @@ use Rattle.stream.specs.Arrays.{Front, Held}
 use Rattle.stream.specs.Merging.{Chosen, chosenBy, changed, mergeOf}
 use Rattle.stream.specs.declared.Values.{Values}
 use Rattle.stream.specs.declared.Stream.{Stream}
-use Rattle.stream.specs.declared.Pids.{Pids}
+use Rattle.stream.specs.declared.pids.Pids.{Pids}
 use Rattle.stream.specs.declared.Outcome.the-variants.{Merged, Combination, TooMany}
 use Rattle.stream.proofs.Edits.{front-same, held-front}
 

@@ -6,8 +6,8 @@ use lib.ListN.{length, take, drop}
 use Rattle.digits.specs.declared.Read.{Read}
 use Rattle.digits.specs.declared.Read.the-variants.{Value, Nothing}
 use Rattle.stream.specs.Pids.{added, removed, most}
-use Rattle.stream.specs.declared.Place.{Place}
-use Rattle.stream.specs.declared.Place.the-variants.{At, Before}
+use Rattle.stream.specs.declared.pids.Place.{Place}
+use Rattle.stream.specs.declared.pids.Place.the-variants.{At, Before}
 
 -- a PID stands at place k of a list, so that adding it changes nothing
 pub record There (p : ℕ) (l : List ℕ) (k : ℕ) : Type 0 where

@@ -10,7 +10,7 @@ use Rattle.stream.specs.Pids.{Choice, chosen, areTooMany, choiceOf, laid
 use Rattle.stream.specs.Arrays.{Held}
 use Rattle.stream.specs.declared.Values.{Values}
 use Rattle.stream.specs.declared.Stream.{Stream}
-use Rattle.stream.specs.declared.Pids.{Pids}
+use Rattle.stream.specs.declared.pids.Pids.{Pids}
 use Rattle.stream.specs.declared.Change.{Change}
 use Rattle.stream.specs.declared.Outcome.the-variants.{Merged, Combination, TooMany}
 

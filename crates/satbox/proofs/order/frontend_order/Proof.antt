@@ -15,13 +15,15 @@ returns-2 : tie.Need-returns-2
 unfolding orderOf
 returns-2 c =
     let d = c .before .before .before in
-    rw (held (d .before .is-well-formed .ensures) (d .if1 .left), no-frontend _ _ (c .before .if2 .taken)) (c .off2 .ensures)
+    let a = d .before .before .args in
+    rw (held (d .before .is-well-formed .ensures) (d .if1 .left), no-frontend (a .t .frontends) (a .n) (c .before .if2 .taken)) (c .off2 .ensures)
 
 returns-3 : tie.Need-returns-3
 unfolding orderOf
 returns-3 c =
     let d = c .before .before .before in
-    rw (held (d .before .is-well-formed .ensures) (d .if1 .left), a-frontend _ _ (c .before .if2 .left)) (c .order-for .ensures)
+    let a = d .before .before .args in
+    rw (held (d .before .is-well-formed .ensures) (d .if1 .left), a-frontend (a .t .frontends) (a .n) (c .before .if2 .left)) (c .order-for .ensures)
 
 pub frontend-order-spec : {M : Type 1} → statement M
 frontend-order-spec = tie.close (tie.spec (λ c κs. search needs) (λ c κs. search needs) returns (λ c. search needs) (λ c κs. search needs) returns-2 (λ c κs. search needs) returns-3)

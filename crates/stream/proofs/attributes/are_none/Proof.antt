@@ -1,0 +1,9 @@
+-- `stream::attributes::are_none` meets its contract. Assumes nothing.
+use borrow.Author.Needs.{needs}
+use Rattle.stream.specs.Values.{areNone}
+use Rattle.stream.proofs.attributes.are_none.Statement.{statement}
+use Rattle.stream.proofs.attributes.are_none.Tie as tie
+
+pub are-none-spec : {M : Type 1} → statement M
+unfolding areNone
+are-none-spec = tie.close (tie.spec (λ c. search needs))
