@@ -10,12 +10,11 @@ use lib.ListN.{length, getD, set, length-set}
 use lib.Seq.{set-getD, map-set-same}
 use borrow.Author.Tests.{ne-eqb, eq-eqb, leb-true}
 use Rattle.scan.specs.Classes.{isBetween}
-use Rattle.scan.proofs.Bools.{and-both}
+use Rattle.scan.proofs.Bools.{and-both, Case, is, isnt, case, Same, same, other, sames, cond-keeps}
 use Rattle.stream.specs.Streams.{noStream, pastStream}
 use Rattle.table.specs.Table.{noSession, isOpen, sessionAt, withStream, isOn}
 use Rattle.table.specs.Formed.{areSizes}
 use Rattle.table.specs.declared.SatBox.{SatBox}
-use Rattle.table.proofs.Counts.{Case, is, isnt, case, Same, same, other, sames, cond-keeps}
 use Rattle.table.proofs.Rules.{Seats, Rows, AreProper, WellFormed}
 use Rattle.table.proofs.Changes.{clear, opened, seats-freed, seats-emptied, seated-id, rows-freed, by-id, proper-set, proper-cleared, proper-later, none-proper}
 use Rattle.satbox.specs.Did.{Did, nothing, then, restreamed, reseated, noting}

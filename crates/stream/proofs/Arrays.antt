@@ -1,16 +1,16 @@
 -- A stream's array of PIDs as loops look at it: zeros from a place on, and PIDs that ascend before them. Assumes nothing.
 use mathlib.Core.Path.{_≡_, refl, ap, _∙_, sym}
-use mathlib.Core.Bool.{Bool, true, false, _&&_}
+use mathlib.Core.Bool.{Bool, true, false, _&&_, and-true, and-false}
 use mathlib.Core.List.{List, [], _∷_}
 use Prim.Native.Nat.{ℕ, zero, suc, _+_, _-_, _≤_, _<_}
 use native.Mathlib.Omega.{arith}
 use lib.Dec.{leb}
 use borrow.Author.Tests.{le-leb, lt-leb}
 use lib.ListN.{length, getD, drop}
+use Rattle.scan.proofs.Bools.{and-and}
 use Rattle.scan.specs.Lists.{all}
 use Rattle.scan.proofs.Loops.{turn, end}
 use Rattle.stream.specs.Pids.{isZero, isPadded}
-use Rattle.stream.proofs.Bools.{and-and, and-true, and-false}
 
 -- z says whether the places looked at so far, from `from` up to i, are zeros
 pub record Zeros (l : List ℕ) (from i : ℕ) (z : Bool) : Type 0 where

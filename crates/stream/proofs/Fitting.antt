@@ -14,7 +14,7 @@ use Rattle.scan.specs.Lists.{all}
 use Rattle.scan.specs.Cut.{cut}
 use Rattle.scan.specs.Words.{placeAmong}
 use Rattle.scan.specs.declared.Case.the-variants.{Counts}
-use Rattle.scan.proofs.Bools.{never, and-both, by-test}
+use Rattle.scan.proofs.Bools.{never, and-both, by-test, both, or-right}
 use Rattle.digits.specs.Reading.{readNumber, atLeast}
 use Rattle.digits.specs.declared.Read.{Read}
 use Rattle.digits.specs.declared.Read.the-variants.{Value, Nothing}
@@ -24,7 +24,6 @@ use Rattle.stream.specs.Values.{isInRange, areInRange, given, kept, isFi
 use Rattle.stream.specs.Pids.{isIn}
 use Rattle.stream.specs.declared.Values.{Values}
 use Rattle.stream.proofs.Edits.{read-most}
-use Rattle.stream.proofs.Bools.{both-and, or-second}
 
 -- a test that all of a list pass
 pub all-in : (q : ℕ → Bool) (l : List ℕ) (a : ℕ) → all q l ≡ true → isIn a l ≡ true → q a ≡ true
@@ -38,7 +37,7 @@ all-in q (x ∷ l) a e h =
 pub all-of : (q : ℕ → Bool) (l : List ℕ) → ((a : ℕ) → isIn a l ≡ true → q a ≡ true) → all q l ≡ true
 all-of q [] f = refl
 all-of q (x ∷ l) f =
-    both-and (f x (rw (eq-eqb x x refl)))
+    both (f x (rw (eq-eqb x x refl)))
     (all-of q l (λ a h. f a (by-test (λ t. t || isIn a l ≡ true) (eqb a x) (λ y. refl) (λ n. h))))
 
 pub fit-of : (codes : List ℕ) → ((a : ℕ) → isIn a kept ≡ true → isFit a (getD codes a 0) ≡ true) → areFit codes ≡ true
@@ -51,7 +50,7 @@ given-ranged attribute code old f h =
     by-test (λ t. t || isInRange attribute code ≡ true → isInRange attribute (cond t old code) ≡ true) (eqb code 0) (λ y z. h) (λ n z. z) f
 
 keeping : {a b c d : Bool} → (a ≡ true → b ≡ true) → (c ≡ true → d ≡ true) → a && c ≡ true → b && d ≡ true
-keeping {a} {b} {c} {d} f g e = let x = and-both a c e in both-and (f (x .0)) (g (x .1))
+keeping {a} {b} {c} {d} f g e = let x = and-both a c e in both (f (x .0)) (g (x .1))
 
 pub merged-ranged : (v : Values) (codes : List ℕ) → areFit codes ≡ true → areInRange v ≡ true → areInRange (merged v codes) ≡ true
 unfolding areFit areInRange merged
@@ -75,7 +74,7 @@ plain-between low high xs {c} = by (readNumber Allowed 5 high xs) (λ v. read-mo
     by Nothing h e = none-read e
     by (Value v) h e =
         by-test (λ t. cond t (Value v) Nothing ≡ Value c → isBetween low high c ≡ true) (leb low v)
-        (λ y z. let s : v ≡ c = same-read z in both-and (rw s at y) (le-leb c high (omega (arith, h v refl))))
+        (λ y z. let s : v ≡ c = same-read z in both (rw s at y) (le-leb c high (omega (arith, h v refl))))
         (λ n z. none-read z) e
 
 word-most : (words xs : List ℕ) {c : ℕ} → word words xs ≡ Value c → c ≤ length (cut 32 words)
@@ -110,11 +109,11 @@ unfolding valueOf isInRange
 read-ranged f a xs c =
     let P : ℕ → Type 0 = λ b. valueOf f b xs ≡ Value c → isInRange b c ≡ true in
     in-front P a 0 (drop 1 kept) (λ e. plain-between 1 4 xs e)
-    (in-front P a 2 (drop 2 kept) (λ e. or-second (eqb c 0) (frequency-between xs e))
+    (in-front P a 2 (drop 2 kept) (λ e. or-right (eqb c 0) (frequency-between xs e))
     (in-front P a 3 (drop 3 kept) (λ e. le-leb c 4 (word-most (text "h v l r") xs e))
     (in-front P a 4 (drop 4 kept) (λ e. le-leb c 2 (word-most (text "dvbs dvbs2") xs e))
     (in-front P a 5 (drop 5 kept) (λ e. le-leb c 2 (word-most (text "qpsk 8psk") xs e))
     (in-front P a 6 (drop 6 kept) (λ e. le-leb c 2 (word-most (text "on off") xs e))
     (in-front P a 7 (drop 7 kept) (λ e. le-leb c 3 (word-most (text "0.35 0.25 0.20") xs e))
-    (in-front P a 8 (drop 8 kept) (λ e. or-second (eqb c 0) (plain-between 1000 45000 xs e))
+    (in-front P a 8 (drop 8 kept) (λ e. or-right (eqb c 0) (plain-between 1000 45000 xs e))
     (in-front P a 9 (drop 9 kept) (λ e. le-leb c 9 (word-most (text "12 23 34 56 78 89 35 45 910") xs e)) (λ h. never h refl)))))))))

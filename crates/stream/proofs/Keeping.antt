@@ -10,7 +10,7 @@ use lib.Seq.{length-take-le}
 use borrow.Author.Tests.{le-leb, leb-true, eqb-true, eqb-false, le-ltb, ltb-false, not-true, not-false}
 use Rattle.scan.specs.Lists.{all}
 use Rattle.scan.specs.Cut.{cut}
-use Rattle.scan.proofs.Bools.{never, and-both, by-test}
+use Rattle.scan.proofs.Bools.{never, and-both, by-test, both}
 use Rattle.digits.specs.declared.Read.{Read}
 use Rattle.digits.specs.declared.Read.the-variants.{Value, Nothing}
 use Rattle.stream.specs.Values.{goTogether, areFit, merged}
@@ -21,7 +21,6 @@ use Rattle.stream.specs.declared.Values.{Values}
 use Rattle.stream.specs.declared.Stream.{Stream}
 use Rattle.stream.specs.declared.Change.{Change}
 use Rattle.stream.specs.declared.Outcome.the-variants.{Merged, Combination, TooMany}
-use Rattle.stream.proofs.Bools.{both-and}
 use Rattle.stream.proofs.Edits.{pid-most}
 use Rattle.stream.proofs.Fitting.{merged-ranged}
 use Rattle.stream.proofs.PidSets.{rises-added-all, rises-removed-all, all-added-all, all-removed-all}
@@ -30,7 +29,7 @@ use Rattle.stream.proofs.Soundness.{Live, sound-live, live-sound}
 
 -- the numbers of a text are PIDs
 with-low : (r : Read) (l : List ℕ) → ((v : ℕ) → r ≡ Value v → v ≤ 8191) → all isLow l ≡ true → all isLow (withNumber r l) ≡ true
-with-low (Value v) l h e = both-and (le-leb v 8191 (h v refl)) e
+with-low (Value v) l h e = both (le-leb v 8191 (h v refl)) e
 with-low Nothing l h e = e
 
 numbers-of-low : (pieces : List (List ℕ)) → all isLow (numbersOf pieces) ≡ true

@@ -1,4 +1,3 @@
-pub mod Bools
 pub mod Arrays
 pub mod Soundness
 pub mod Places

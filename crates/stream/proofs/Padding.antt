@@ -9,9 +9,8 @@ use lib.Dec.{leb}
 use lib.ListN.{length, take, replicate}
 use borrow.Author.Tests.{eqb-true}
 use Rattle.scan.specs.Lists.{all}
-use Rattle.scan.proofs.Bools.{never, and-both}
+use Rattle.scan.proofs.Bools.{never, and-both, both}
 use Rattle.stream.specs.Pids.{isZero, isLow, rises, isPadded}
-use Rattle.stream.proofs.Bools.{both-and}
 
 zeros-padded : (n k : ℕ) → isPadded 0 n (replicate k 0) ≡ true
 zeros-padded n zero = refl
@@ -22,7 +21,7 @@ padded-laid n k [] e h = zeros-padded n k
 padded-laid n k (p ∷ l) e h =
     let a = and-both (leb n p) (rises (suc p) l) e in
     let b = and-both (isLow p) (all isLow l) h in
-    both-and (a .0) (both-and (b .0) (padded-laid (suc p) k l (a .1) (b .1)))
+    both (a .0) (both (b .0) (padded-laid (suc p) k l (a .1) (b .1)))
 
 pub zeros-are : (l : List ℕ) → all isZero l ≡ true → l ≡ replicate (length l) 0
 zeros-are [] e = refl
@@ -46,7 +45,7 @@ padded-is (suc count) n (p ∷ l) e =
     let r : Padded count (suc p) l = padded-is count (suc p) l (b .1) in
     record {
       fits = omega (arith, r .fits);
-      rising = both-and (a .0) (r .rising);
-      low = both-and (b .0) (r .low);
+      rising = both (a .0) (r .rising);
+      low = both (b .0) (r .low);
       zeros = rw suc-sub-suc (ap (λ x. p ∷ x) (r .zeros));
     }

@@ -1,7 +1,7 @@
 -- Ascending lists as sets of PIDs: what is in a list after one was added or removed, that it still ascends, and that the list is
 -- determined by what is in it. Assumes nothing.
 use mathlib.Core.Path.{_≡_, refl, ap, ap₂, _∙_, sym}
-use mathlib.Core.Bool.{Bool, true, false, not, cond, _&&_, _||_}
+use mathlib.Core.Bool.{Bool, true, false, not, cond, _&&_, _||_, and-true, and-false}
 use mathlib.Core.List.{List, [], _∷_}
 use Prim.Native.Nat.{ℕ, suc, _≤_, _<_}
 use native.Mathlib.Decide.{decLt}
@@ -9,26 +9,25 @@ use native.Mathlib.Omega.{arith}
 use lib.Dec.{eqb, leb, ltb}
 use borrow.Author.Tests.{leb-true, le-leb, ltb-true, ltb-false, eqb-true, eqb-false, eq-eqb, ne-eqb}
 use Rattle.scan.specs.Lists.{all}
-use Rattle.scan.proofs.Bools.{never, and-both, by-test, by-cases}
+use Rattle.scan.proofs.Bools.{never, and-both, by-test, by-cases, both, or-swap, or-same}
 use Rattle.stream.specs.Pids.{rises, isIn, added, removed, addedAll, removedAll}
-use Rattle.stream.proofs.Bools.{and-true, and-false, both-and, or-swap, or-same}
 
 -- a list ascends from any lower start
 pub rises-from : (n m : ℕ) (l : List ℕ) → n ≤ m → rises m l ≡ true → rises n l ≡ true
 rises-from n m [] h e = refl
 rises-from n m (p ∷ l) h e =
     let a = and-both (leb m p) (rises (suc p) l) e in
-    both-and (le-leb n p (omega (arith, leb-true m p (a .0)))) (a .1)
+    both (le-leb n p (omega (arith, leb-true m p (a .0)))) (a .1)
 
 pub rises-added : (n p : ℕ) (l : List ℕ) → rises n l ≡ true → n ≤ p → rises n (added p l) ≡ true
-rises-added n p [] e h = both-and (le-leb n p h) refl
+rises-added n p [] e h = both (le-leb n p h) refl
 rises-added n p (q ∷ l) e h =
     let a = and-both (leb n q) (rises (suc q) l) e in
     by-test (λ t. rises n (cond t (p ∷ q ∷ l) (cond (eqb p q) (q ∷ l) (q ∷ added p l))) ≡ true) (ltb p q)
-    (λ y. both-and (le-leb n p h) (both-and (le-leb (suc p) q (omega (arith, ltb-true p q y))) (a .1)))
+    (λ y. both (le-leb n p h) (both (le-leb (suc p) q (omega (arith, ltb-true p q y))) (a .1)))
     (λ m. by-test (λ t. rises n (cond t (q ∷ l) (q ∷ added p l)) ≡ true) (eqb p q)
     (λ y. e)
-    (λ d. let x = eqb-false p q d in both-and (a .0) (rises-added (suc q) p l (a .1) (omega (arith, ltb-false p q m)))))
+    (λ d. let x = eqb-false p q d in both (a .0) (rises-added (suc q) p l (a .1) (omega (arith, ltb-false p q m)))))
 
 pub rises-removed : (n p : ℕ) (l : List ℕ) → rises n l ≡ true → rises n (removed p l) ≡ true
 rises-removed n p [] e = refl
@@ -38,7 +37,7 @@ rises-removed n p (q ∷ l) e =
     (λ y. e)
     (λ m. by-test (λ t. rises n (cond t l (q ∷ removed p l)) ≡ true) (eqb p q)
     (λ y. rises-from n (suc q) l (omega (arith, leb-true n q (a .0))) (a .1))
-    (λ d. both-and (a .0) (rises-removed (suc q) p l (a .1))))
+    (λ d. both (a .0) (rises-removed (suc q) p l (a .1))))
 
 pub rises-added-all : (ps l : List ℕ) → rises 0 l ≡ true → rises 0 (addedAll ps l) ≡ true
 rises-added-all [] l e = e
@@ -51,14 +50,14 @@ rises-removed-all (p ∷ ps) l e = rises-removed-all ps (removed p l) (rises-rem
 -- what holds of every PID holds of those that are left, and of one more where it holds of that one
 module _ (q : ℕ → Bool) where
   pub all-added : (p : ℕ) (l : List ℕ) → q p ≡ true → all q l ≡ true → all q (added p l) ≡ true
-  all-added p [] h e = both-and h refl
+  all-added p [] h e = both h refl
   all-added p (x ∷ l) h e =
       let a = and-both (q x) (all q l) e in
       by-test (λ t. all q (cond t (p ∷ x ∷ l) (cond (eqb p x) (x ∷ l) (x ∷ added p l))) ≡ true) (ltb p x)
-      (λ y. both-and h e)
+      (λ y. both h e)
       (λ m. by-test (λ t. all q (cond t (x ∷ l) (x ∷ added p l)) ≡ true) (eqb p x)
       (λ y. e)
-      (λ d. both-and (a .0) (all-added p l h (a .1))))
+      (λ d. both (a .0) (all-added p l h (a .1))))
 
   pub all-removed : (p : ℕ) (l : List ℕ) → all q l ≡ true → all q (removed p l) ≡ true
   all-removed p [] e = refl
@@ -68,7 +67,7 @@ module _ (q : ℕ → Bool) where
       (λ y. e)
       (λ m. by-test (λ t. all q (cond t l (x ∷ removed p l)) ≡ true) (eqb p x)
       (λ y. a .1)
-      (λ d. both-and (a .0) (all-removed p l (a .1))))
+      (λ d. both (a .0) (all-removed p l (a .1))))
 
   pub all-added-all : (ps l : List ℕ) → all q ps ≡ true → all q l ≡ true → all q (addedAll ps l) ≡ true
   all-added-all [] l h e = e

@@ -1,6 +1,6 @@
 -- What each change of the sessions and the streams does to their rules: of the lists alone, with no table and no journal. Assumes nothing.
 use mathlib.Core.Path.{_≡_, refl, sym, _∙_, ap}
-use mathlib.Core.Bool.{Bool, true, false, not, _&&_}
+use mathlib.Core.Bool.{Bool, true, false, not, _&&_, and-false}
 use mathlib.Core.List.{List, _∷_, map}
 use Prim.Native.Nat.{ℕ, zero, suc, _+_, _-_, _%_, _≤_, _<_}
 use native.Mathlib.Omega.{arith}
@@ -9,7 +9,7 @@ use lib.ListN.{length, getD, set}
 use lib.Seq.{getD-set-other, getD-set-same}
 use borrow.Author.Tests.{ne-eqb, eq-eqb, eqb-true, eqb-false, not-true, leb-true, le-leb}
 use Rattle.scan.specs.Classes.{isBetween}
-use Rattle.scan.proofs.Bools.{never, and-both}
+use Rattle.scan.proofs.Bools.{never, and-both, Case, is, isnt, case, Same, same, other, sames, both, cond-keeps}
 use Rattle.stream.specs.Values.{areNone}
 use Rattle.stream.specs.Streams.{noStream, pastStream, isSound, areZero}
 use Rattle.stream.specs.declared.Stream.{Stream}
@@ -17,7 +17,7 @@ use Rattle.table.specs.Counts.{bit, count}
 use Rattle.table.specs.Table.{noSession, has, isFree, isOpen, streamIn, withStream, isOn, owns}
 use Rattle.table.specs.Formed.{isProper, isSeated, isEmpty}
 use Rattle.table.specs.declared.Session.{Session}
-use Rattle.table.proofs.Counts.{Case, is, isnt, case, Same, same, other, sames, and-no, both, bit-no, bit-yes, count-le, count-set, count-zero-at, count-set-le, count-set-same, cleared, count-cleared-le, count-cleared-same, count-cleared-none, all-cleared, once-set, getD-set-all, getD-set-alike, getD-set-here, cond-keeps}
+use Rattle.table.proofs.Counts.{bit-no, bit-yes, count-le, count-set, count-zero-at, count-set-le, count-set-same, cleared, count-cleared-le, count-cleared-same, count-cleared-none, all-cleared, once-set, getD-set-all, getD-set-alike, getD-set-here}
 use Rattle.table.proofs.Rules.{fed, Seats, Rows, AreProper}
 
 -- a session on the stream of an ID, made none
@@ -36,11 +36,11 @@ opened s e = eqb-false _ _ (not-true _ e)
 
 -- one that owns nothing
 owns-none : (k : ℕ) (s : Session) → s .owner ≡ 0 → owns k s ≡ false
-owns-none k s e = rw (e, and-no (isOn k s))
+owns-none k s e = rw (e, and-false (isOn k s))
 
 -- s is on no stream but its own
 off : (k : ℕ) (s : Session) → (s .stream ≡ k → ⊥) → isOn k s ≡ false
-off k s h = rw (ne-eqb (s .stream) k h, and-no (isOpen s))
+off k s h = rw (ne-eqb (s .stream) k h, and-false (isOpen s))
 
 owns-on : (k : ℕ) (s : Session) → owns k s ≡ true → isOn k s ≡ true
 owns-on k s e = and-both (isOn k s) _ e .0

@@ -9,48 +9,8 @@ use lib.Dec.{eqb}
 use lib.ListN.{length, getD, set}
 use borrow.Author.Tests.{eqb-true, eqb-false, eq-eqb, ne-eqb, not-true}
 use Rattle.scan.specs.Lists.{all, first}
-use Rattle.scan.proofs.Bools.{never, and-both}
+use Rattle.scan.proofs.Bools.{never, and-both, Case, is, isnt, case, Same, same, other, sames, both, or-second, or-neither, cond-keeps}
 use Rattle.table.specs.Counts.{bit, count, any, isAmong, areDistinct}
-
--- a test by its answer, and two numbers by whether they are the same
-pub data Case (b : Bool) : Type 0 where
-  is : b ≡ true → Case b
-  isnt : b ≡ false → Case b
-
-pub case : (b : Bool) → Case b
-case true = is refl
-case false = isnt refl
-
-pub data Same (a b : ℕ) : Type 0 where
-  same : a ≡ b → Same a b
-  other : (a ≡ b → ⊥) → Same a b
-
-pub sames : (a b : ℕ) → Same a b
-sames a b = by (case (eqb a b))
-  where
-    by : Case (eqb a b) → Same a b
-    by (is e) = same (eqb-true a b e)
-    by (isnt e) = other (eqb-false a b e)
-
-pub both : {x y : Bool} → x ≡ true → y ≡ true → x && y ≡ true
-both p q = rw (p, q)
-
-pub or-second : (x y : Bool) → x || y ≡ true → x ≡ false → y ≡ true
-or-second true y e h = never refl h
-or-second false y e h = e
-
-pub or-neither : (x y : Bool) → x || y ≡ false → (x ≡ false) × (y ≡ false)
-or-neither true y e = never refl e
-or-neither false y e = (refl, e)
-
-pub and-no : (x : Bool) → x && false ≡ false
-and-no true = refl
-and-no false = refl
-
--- what holds of both outcomes holds of the one that the test picks
-pub cond-keeps {ℓ} : {W : Type ℓ} (P : W → Type 0) (b : Bool) (v w : W) → (b ≡ true → P v) → (b ≡ false → P w) → P (cond b v w)
-cond-keeps P true v w h k = h refl
-cond-keeps P false v w h k = k refl
 
 pub bit-no : {b : Bool} → b ≡ false → bit b ≡ 0
 bit-no e = rw e

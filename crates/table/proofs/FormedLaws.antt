@@ -10,6 +10,7 @@ use lib.Seq.{getD-set-same, getD-set-other}
 use borrow.Author.Tests.{eq-eqb, ne-eqb}
 use Rattle.scan.specs.Lists.{all}
 use Rattle.scan.proofs.Loops.{turn, end, Passing, passing-start, passing-more, passing-not, passing-end}
+use Rattle.scan.proofs.Bools.{Same, sames, same, other}
 use Rattle.stream.specs.Streams.{pastStream}
 use Rattle.stream.specs.declared.Stream.{Stream}
 use Rattle.table.specs.Table.{noSession, isOpen, sessionAt, streamIn, isDead, owns}
@@ -17,7 +18,6 @@ use Rattle.table.specs.Formed.{isHoused, areOwned}
 use Rattle.table.specs.Owners.{isOwner, Tally}
 use Rattle.table.specs.declared.Session.{Session}
 use Rattle.table.specs.declared.SatBox.{SatBox}
-use Rattle.table.proofs.Counts.{Same, sames, same, other}
 use Rattle.table.proofs.Places.{failed, held, Counting, counting-start, counting-one, counting-no, counting-end}
 
 -- "each open session belongs to a live stream": the stream of an ID stands at the place before it

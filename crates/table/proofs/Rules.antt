@@ -9,7 +9,7 @@ use lib.Dec.{eqb, leb}
 use lib.ListN.{getD}
 use borrow.Author.Tests.{ne-eqb, eq-eqb, eqb-true, eqb-false, not-true, leb-true, le-leb}
 use Rattle.scan.specs.Lists.{all}
-use Rattle.scan.proofs.Bools.{never, and-both}
+use Rattle.scan.proofs.Bools.{never, and-both, Case, is, isnt, case, both, or-second}
 use Rattle.stream.specs.Values.{areNone}
 use Rattle.stream.specs.Streams.{pastStream, isSound, areZero}
 use Rattle.stream.specs.declared.Stream.{Stream}
@@ -18,7 +18,7 @@ use Rattle.table.specs.Table.{noSession, has, isFree, isOpen, opens, str
 use Rattle.table.specs.Formed.{areSizes, numbersOf, isHoused, areOwned, frontendsOf, isProper, isEmpty, fits, wellFormed}
 use Rattle.table.specs.declared.Session.{Session}
 use Rattle.table.specs.declared.SatBox.{SatBox}
-use Rattle.table.proofs.Counts.{Case, is, isnt, case, both, or-second, all-at, at-all, all-count, count-map, count-zero-at, distinct-count, count-distinct, is-number}
+use Rattle.table.proofs.Counts.{all-at, at-all, all-count, count-map, count-zero-at, distinct-count, count-distinct, is-number}
 
 -- a stream has a frontend
 abbrev pub fed : ℕ → Stream → Bool
