@@ -1,11 +1,10 @@
 -- The calls by the ways they end: each refusal, and done. Assumes nothing.
-use mathlib.Core.Path.{_≡_, refl, sym, _∙_, ap, subst}
-use mathlib.Core.Bool.{Bool, true, false}
-use mathlib.Core.List.{List, _++_}
+use mathlib.Core.Path.{_≡_, _∙_, ap, subst}
+use mathlib.Core.Bool.{true, false}
+use mathlib.Core.List.{List}
 use Prim.Native.Nat.{ℕ, _-_, _≤_, _<_}
 use native.Mathlib.Omega.{arith}
-use lib.Dec.{eqb, ltb}
-use lib.ListN.{length, take, drop, length-take}
+use lib.ListN.{length, take, length-take}
 use borrow.Author.Tests.{eq-eqb, ne-eqb, lt-ltb, le-ltb}
 use Rattle.scan.specs.Lists.{part}
 use Rattle.digits.specs.Wrote.{Wrote}
@@ -14,10 +13,10 @@ use Rattle.table.specs.Formed.{wellFormed}
 use Rattle.table.specs.declared.SatBox.{SatBox}
 use Rattle.table.specs.declared.Refusal.the-variants.{Table, Journal, Buffer}
 use Rattle.table.specs.declared.Outcome.the-variants.{Done, Refused}
-use Rattle.table.proofs.Rules.{WellFormed, formed}
+use Rattle.table.proofs.Rules.{formed}
 use Rattle.satbox.specs.Does.{Does, Roomy}
 use Rattle.satbox.specs.Closing.{swept, atClock}
-use Rattle.satbox.specs.Calls.{isJournal, ticked, tickedJournal, emptied, uncollected, collected, collectedInto}
+use Rattle.satbox.specs.Calls.{ticked, tickedJournal, emptied, uncollected, collected, collectedInto}
 use Rattle.satbox.proofs.Keeping.{Whole, whole-roomy, clock-whole}
 
 -- a well-formed table of the code has room for its closings

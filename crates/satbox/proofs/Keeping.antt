@@ -1,22 +1,22 @@
 -- Closings and the sweep keep a table well formed. A cascade's end is one equation: every session of the stream is gone, and nothing else
 -- of the places and the streams has changed. Assumes nothing.
 use mathlib.Core.Path.{_≡_, refl, sym, _∙_, ap, subst}
-use mathlib.Core.Bool.{Bool, true, _&&_}
-use mathlib.Core.List.{List, _∷_, map}
-use Prim.Native.Nat.{ℕ, _+_, _*_, _%_, _≤_, _<_, max}
+use mathlib.Core.Bool.{true}
+use mathlib.Core.List.{_∷_, map}
+use Prim.Native.Nat.{ℕ, _≤_, _<_, max}
 use native.Mathlib.Omega.{arith}
-use lib.Dec.{eqb, leb}
-use lib.ListN.{length, getD, set, length-set}
+use lib.Dec.{leb}
+use lib.ListN.{length, set, length-set}
 use lib.Seq.{set-getD, map-set-same}
 use borrow.Author.Tests.{ne-eqb, eq-eqb, leb-true}
 use Rattle.scan.specs.Classes.{isBetween}
 use Rattle.scan.proofs.Bools.{and-both, Case, is, isnt, case, Same, same, other, sames, cond-keeps}
 use Rattle.stream.specs.Streams.{noStream, pastStream}
-use Rattle.table.specs.Table.{noSession, isOpen, sessionAt, withStream, isOn}
+use Rattle.table.specs.Table.{noSession, sessionAt, withStream, isOn}
 use Rattle.table.specs.Formed.{areSizes}
 use Rattle.table.specs.declared.SatBox.{SatBox}
 use Rattle.table.proofs.Rules.{Seats, Rows, AreProper, WellFormed}
-use Rattle.table.proofs.Changes.{clear, opened, seats-freed, seats-emptied, seated-id, rows-freed, by-id, proper-set, proper-cleared, proper-later, none-proper}
+use Rattle.table.proofs.Changes.{clear, seats-freed, seats-emptied, seated-id, rows-freed, by-id, proper-set, proper-cleared, proper-later, none-proper}
 use Rattle.satbox.specs.Did.{Did, nothing, then, restreamed, reseated, noting}
 use Rattle.satbox.specs.Does.{Roomy, Closable}
 use Rattle.satbox.specs.Closing.{closeOne, closeOn, cascade, free, closing, isExpired, sweepAt, swept, atClock}

@@ -1,20 +1,19 @@
 -- A table that is well formed stays so: a fresh box is, and whatever a tick, a collection, a merged query, an opening or a closing leaves.
 -- Assumes nothing.
-use mathlib.Core.Path.{_≡_, refl, sym, _∙_, ap}
-use mathlib.Core.Bool.{Bool, true}
+use mathlib.Core.Path.{_≡_, refl, _∙_}
+use mathlib.Core.Bool.{true}
 use mathlib.Core.List.{List, _∷_}
-use Prim.Native.Nat.{ℕ, _+_, _*_, _%_}
+use Prim.Native.Nat.{ℕ}
 use native.Mathlib.Omega.{arith}
-use lib.ListN.{length, getD}
 use Rattle.stream.specs.Streams.{pastStream, isSound}
 use Rattle.stream.specs.declared.Stream.{Stream}
-use Rattle.table.specs.Table.{streamOf, withStream}
+use Rattle.table.specs.Table.{streamOf}
 use Rattle.table.specs.Formed.{areSizes, wellFormed}
 use Rattle.table.specs.Made.{fresh}
 use Rattle.table.specs.declared.SatBox.{SatBox}
 use Rattle.table.specs.declared.Outcome.{Outcome}
 use Rattle.table.specs.declared.Outcome.the-variants.{Done, Refused}
-use Rattle.table.proofs.Rules.{Seats, formed, formed-back}
+use Rattle.table.proofs.Rules.{formed, formed-back}
 use Rattle.table.proofs.Changes.{seats-fed, rows-fed, by-id}
 use Rattle.table.proofs.Fresh.{fresh-formed}
 use Rattle.satbox.specs.Did.{restreamed}

@@ -1,11 +1,11 @@
 -- Document 01, step 18 and what an opening takes. Assumes nothing.
 use Prim.Native.Nat.{ℕ, _+_, _*_}
-use mathlib.Core.Bool.{Bool, true, false, not, cond, _&&_}
+use mathlib.Core.Bool.{Bool, not, _&&_}
 use lib.Dec.{leb, ltb}
 use lib.ListN.{length}
 use Rattle.scan.specs.Classes.{isBetween}
 use Rattle.stream.specs.declared.Stream.{Stream}
-use Rattle.table.specs.Table.{noSession, opens, streamOf, isLive}
+use Rattle.table.specs.Table.{opens, streamOf, isLive}
 use Rattle.table.specs.Finding.{lowestPlace, lowestId, isHeld, drawn}
 use Rattle.table.specs.declared.Session.{Session}
 use Rattle.table.specs.declared.SatBox.{SatBox}

@@ -74,4 +74,3 @@ or-swap false b c = refl
 pub or-same : (a c : Bool) → a || c ≡ a || (a || c)
 or-same true c = refl
 or-same false c = refl
-

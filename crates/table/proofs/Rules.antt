@@ -1,11 +1,11 @@
 -- The rules of a well-formed table as counts over its two lists, from the test that computes them and back. A rule that is a count is kept
 -- by a change in one line. Assumes nothing.
 use mathlib.Core.Path.{_≡_, refl, sym, _∙_, ap}
-use mathlib.Core.Bool.{Bool, true, false, _&&_, _||_}
+use mathlib.Core.Bool.{Bool, true, false, _||_}
 use mathlib.Core.List.{List, [], _∷_}
 use Prim.Native.Nat.{ℕ, zero, suc, _+_, _*_, _%_, _≤_}
 use native.Mathlib.Omega.{arith}
-use lib.Dec.{eqb, leb}
+use lib.Dec.{eqb}
 use lib.ListN.{getD}
 use borrow.Author.Tests.{ne-eqb, eq-eqb, eqb-true, eqb-false, not-true, leb-true, le-leb}
 use Rattle.scan.specs.Lists.{all}
@@ -14,7 +14,7 @@ use Rattle.stream.specs.Values.{areNone}
 use Rattle.stream.specs.Streams.{pastStream, isSound, areZero}
 use Rattle.stream.specs.declared.Stream.{Stream}
 use Rattle.table.specs.Counts.{count, areDistinct}
-use Rattle.table.specs.Table.{noSession, has, isFree, isOpen, opens, streamOf, streamIn, isDead, isLive, isOn, owns}
+use Rattle.table.specs.Table.{noSession, has, isFree, opens, streamOf, isDead, isOn, owns}
 use Rattle.table.specs.Formed.{areSizes, numbersOf, isHoused, areOwned, frontendsOf, isProper, isEmpty, fits, wellFormed}
 use Rattle.table.specs.declared.Session.{Session}
 use Rattle.table.specs.declared.SatBox.{SatBox}

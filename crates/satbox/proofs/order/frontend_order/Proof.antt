@@ -1,5 +1,4 @@
 -- `satbox::order::frontend_order` meets its contract. Assumes nothing.
-use mathlib.Core.Path.{sym, _∙_}
 use borrow.Author.Needs.{needs}
 use Rattle.table.proofs.Places.{failed, held}
 use Rattle.satbox.specs.Orders.{orderOf}

@@ -1,5 +1,5 @@
 -- `satbox::order::order_at` meets its contract. Assumes nothing.
-use mathlib.Core.Path.{sym, _∙_}
+use mathlib.Core.Path.{_∙_}
 use borrow.Author.Needs.{needs}
 use Rattle.table.proofs.Places.{failed, held}
 use Rattle.satbox.proofs.OrderLaws.{order-unplayed, order-incomplete, order-complete}
