@@ -1,0 +1,129 @@
+// A table, a call's outcome and what it wrote, in words and numbers.
+use crate::out;
+use stream::Stream;
+use stream::Values;
+use table::Outcome;
+use table::Refusal;
+use table::SatBox;
+use table::Session;
+
+pub(crate) fn refused(label: &[u8], why: Refusal) {
+    out::text(label);
+    out::number(b" refused ", table::number(why) as u32);
+}
+
+pub(crate) fn outcome(label: &[u8], outcome: Outcome) {
+    match outcome {
+        Outcome::Done => {
+            out::text(label);
+            out::text(b" done");
+        }
+        Outcome::Refused(why) => refused(label, why),
+    }
+}
+
+// The numbers that a call may move, to the end of the line.
+pub(crate) fn state(t: SatBox) {
+    out::number(b", clock ", t.clock);
+    out::number(b" sequence ", t.sequence as u32);
+    out::number(b" held ", t.held);
+    out::number(b" open ", table::count_open(t));
+    out::text(b"\n");
+}
+
+// The records that a call wrote behind those that were held before it.
+pub(crate) fn records(journal: &[u8], before: u32, after: u32) {
+    let a = before as usize;
+    let e = after as usize;
+    if a <= e {
+        if e <= journal.len() {
+            out::rows(&journal[a..e]);
+        }
+    }
+}
+
+pub(crate) fn session(s: Session) {
+    out::hex(b" session ", s.number);
+    out::number(b" stream ", s.stream as u32);
+    out::number(b" owner ", s.owner as u32);
+    out::number(b" playing ", s.playing as u32);
+    out::number(b" last ", s.last);
+    out::number(b" port ", s.port);
+    out::address(b" address ", s.address);
+}
+
+fn values(v: Values) {
+    out::number(b" src ", v.src);
+    out::number(b" freq ", v.freq);
+    out::number(b" pol ", v.pol);
+    out::number(b" msys ", v.msys);
+    out::number(b" mtype ", v.mtype);
+    out::number(b" plts ", v.plts);
+    out::number(b" ro ", v.ro);
+    out::number(b" sr ", v.sr);
+    out::number(b" fec ", v.fec);
+}
+
+// The first PIDs of an array.
+fn pids(m: Stream) {
+    let list = m.pids;
+    let count = m.count as usize;
+    let mut i = 0;
+    while i < 32 {
+        if i < count {
+            out::number(b" ", list[i] as u32);
+        }
+        i += 1;
+    }
+}
+
+pub(crate) fn stream(m: Stream) {
+    let v = m.values;
+    out::number(b" frontend ", m.frontend as u32);
+    values(v);
+    out::number(b" all ", m.all as u32);
+    out::number(b" pids ", m.count as u32);
+    out::text(b":");
+    pids(m);
+}
+
+// A line for each open session.
+fn sessions(t: SatBox) {
+    let mut i = 0;
+    while i < SatBox::SESSIONS {
+        let s = t.sessions[i];
+        if s.number != 0 {
+            out::number(b"  place ", i as u32);
+            session(s);
+            out::text(b"\n");
+        }
+        i += 1;
+    }
+}
+
+// A line for each live stream, with its ID.
+fn streams(t: SatBox) {
+    let mut i = 0;
+    while i < SatBox::STREAMS {
+        let m = t.streams[i];
+        i += 1;
+        if m.frontend != 0 {
+            out::number(b"  stream ", i as u32);
+            stream(m);
+            out::text(b"\n");
+        }
+    }
+}
+
+pub(crate) fn table(t: SatBox) {
+    out::number(b"  frontends ", t.frontends as u32);
+    out::number(b" size ", t.size);
+    if table::is_well_formed(t) {
+        out::text(b", well formed");
+    } else {
+        out::text(b", not well formed");
+    }
+    state(t);
+    sessions(t);
+    streams(t);
+}
