@@ -120,21 +120,25 @@ pub(crate) fn order(t: SatBox, line: &[u8]) -> SatBox {
     t
 }
 
-// What the three calls make of a table that is then thrown away.
-fn attempt(t: SatBox, journal: &mut [u8], size: u32) {
-    let mut buffer = [0u8; 65536];
-    let n = at_most(journal.len(), size);
-    let ticked = satbox::tick(t, 0, &mut journal[0..n]);
-    let outcome = ticked.outcome;
+fn attempt_tick(t: SatBox, journal: &mut [u8]) {
+    let r = satbox::tick(t, 0, journal);
+    let outcome = r.outcome;
     show::outcome(b"  tick", outcome);
-    let collected = satbox::collect(t, &journal[0..n], &mut buffer);
-    let outcome = collected.outcome;
-    show::outcome(b", collect", outcome);
-    show_order(b", order", t, 1);
 }
 
-// `spoil` as `set`, for a look at what the calls say to such a table.
+fn attempt_collect(t: SatBox, journal: &[u8]) {
+    let mut buffer = [0u8; 65536];
+    let r = satbox::collect(t, journal, &mut buffer);
+    let outcome = r.outcome;
+    show::outcome(b", collect", outcome);
+}
+
+// `spoil` as `set`, for a look at what the calls say to such a table, which is then thrown away.
 pub(crate) fn spoil(t: SatBox, journal: &mut [u8], line: &[u8]) -> SatBox {
-    attempt(fields::set(t, line), journal, t.size);
+    let n = at_most(journal.len(), t.size);
+    let u = fields::set(t, line);
+    attempt_tick(u, &mut journal[0..n]);
+    attempt_collect(u, &journal[0..n]);
+    show_order(b", order", u, 1);
     t
 }

@@ -3,11 +3,11 @@ use crate::calls::at_most;
 use crate::fields;
 use crate::out;
 use crate::query;
+use crate::query::Answer;
 use crate::script;
 use crate::show;
 use satbox::Client;
 use satbox::Opened;
-use stream::Outcome;
 use stream::Stream;
 use table::Refusal;
 use table::SatBox;
@@ -71,24 +71,30 @@ fn frontends_of(t: SatBox) -> u8 {
     fields::small(t.frontends as u32)
 }
 
+fn show_answer(answer: Answer) {
+    match answer {
+        Answer::Merged => out::text(b"  merged"),
+        Answer::Combination => out::text(b"  combination"),
+        Answer::TooMany => out::text(b"  too many"),
+        Answer::Unknown => out::text(b"  no query"),
+    }
+}
+
 // `open FRONTEND PORT DRAW` and a query
 pub(crate) fn open(t: SatBox, journal: &mut [u8], line: &[u8]) -> SatBox {
     if !table::is_well_formed(t) {
         return refuse(t);
     }
-    let q = query::read(line, script::start(line, 4), frontends_of(t));
-    if !q.is_known {
-        return not_done(t, b"no query");
-    }
     let blank = Stream::blank(frontend(t, script::number(line, 1)));
-    let change = query::merge(blank, q, line);
-    let outcome = change.outcome;
-    let m = change.stream;
-    match outcome {
-        Outcome::Merged => open_stream(t, journal, m, line),
-        Outcome::Combination => not_done(t, b"combination"),
-        Outcome::TooMany => not_done(t, b"too many"),
+    let obeyed = query::obey(blank, line, 4, frontends_of(t));
+    let answer = obeyed.answer;
+    let m = obeyed.stream;
+    if let Answer::Merged = answer {
+        return open_stream(t, journal, m, line);
     }
+    show_answer(answer);
+    show::state(t);
+    t
 }
 
 // `join ID PORT DRAW`
@@ -102,34 +108,21 @@ pub(crate) fn join(t: SatBox, journal: &mut [u8], line: &[u8]) -> SatBox {
     show_opened(t, journal, opened)
 }
 
-fn show_merged(outcome: Outcome, m: Stream) {
-    match outcome {
-        Outcome::Merged => out::text(b"  merged"),
-        Outcome::Combination => out::text(b"  combination"),
-        Outcome::TooMany => out::text(b"  too many"),
-    }
-    show::stream(m);
-    out::text(b"\n");
-}
-
 fn merge_at(t: SatBox, i: usize, line: &[u8]) -> SatBox {
     if SatBox::STREAMS <= i {
         return not_done(t, b"no stream");
     }
-    let m = t.streams[i];
-    if m.frontend == 0 {
+    if t.streams[i].frontend == 0 {
         return not_done(t, b"no stream");
     }
-    let q = query::read(line, script::start(line, 2), frontends_of(t));
-    if !q.is_known {
-        return not_done(t, b"no query");
-    }
-    let change = query::merge(m, q, line);
-    let outcome = change.outcome;
-    let after = change.stream;
-    show_merged(outcome, after);
+    let obeyed = query::obey(t.streams[i], line, 2, frontends_of(t));
+    let answer = obeyed.answer;
+    let m = obeyed.stream;
+    show_answer(answer);
+    show::stream(m);
+    out::text(b"\n");
     let mut u = t;
-    u.streams[i] = after;
+    u.streams[i] = m;
     u
 }
 

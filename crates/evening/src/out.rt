@@ -1,4 +1,6 @@
 // What the evening writes to standard output.
+use crate::script;
+
 pub(crate) fn text(s: &[u8]) {
     io::write_all(1, s);
 }
@@ -10,6 +12,17 @@ pub(crate) fn number(label: &[u8], v: u32) {
     text(label);
     if n <= 10 {
         text(&digits[0..n]);
+    }
+}
+
+// Numbers, each after its label; the labels have one space between each two.
+pub(crate) fn numbers(labels: &[u8], values: &[u32]) {
+    let mut i = 0;
+    while i < values.len() {
+        text(b" ");
+        text(script::word(labels, i));
+        number(b" ", values[i]);
+        i += 1;
     }
 }
 

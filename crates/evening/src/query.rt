@@ -4,13 +4,28 @@ use digits::Read;
 use scan::Class;
 use scan::Span;
 use stream::Change;
+use stream::Outcome;
 use stream::Stream;
 
+// What became of a query.
+pub(crate) enum Answer {
+    Merged,
+    Combination,
+    TooMany,
+    Unknown,
+}
+
+// A stream after a query; as it was where the query is not merged.
+pub(crate) struct Obeyed {
+    pub(crate) stream: Stream,
+    pub(crate) answer: Answer,
+}
+
 // The codes of the attributes given and where their values stand in the line, and whether every word was one of document 01's.
-pub(crate) struct Query {
+struct Query {
     codes: [u32; 13],
     values: [Span; 13],
-    pub(crate) is_known: bool,
+    is_known: bool,
 }
 
 fn with_value(q: Query, attribute: usize, read: Read, value: Span) -> Query {
@@ -39,7 +54,7 @@ fn with_word(q: Query, line: &[u8], start: usize, end: usize, frontends: u8) -> 
 }
 
 // The query that a line's words are, from a place on.
-pub(crate) fn read(line: &[u8], from: usize, frontends: u8) -> Query {
+fn read(line: &[u8], from: usize, frontends: u8) -> Query {
     let mut q = Query {
         codes: [0; 13],
         values: [Span { start: 0, end: 0 }; 13],
@@ -54,7 +69,7 @@ pub(crate) fn read(line: &[u8], from: usize, frontends: u8) -> Query {
     q
 }
 
-pub(crate) fn merge(m: Stream, q: Query, line: &[u8]) -> Change {
+fn merge(m: Stream, q: Query, line: &[u8]) -> Change {
     let pids = q.values[10];
     let addpids = q.values[11];
     let delpids = q.values[12];
@@ -66,4 +81,27 @@ pub(crate) fn merge(m: Stream, q: Query, line: &[u8]) -> Change {
         script::part(line, delpids.start, delpids.end),
         script::part(line, addpids.start, addpids.end),
     )
+}
+
+fn answered(change: Change) -> Obeyed {
+    let stream = change.stream;
+    let outcome = change.outcome;
+    let answer = match outcome {
+        Outcome::Merged => Answer::Merged,
+        Outcome::Combination => Answer::Combination,
+        Outcome::TooMany => Answer::TooMany,
+    };
+    Obeyed { stream, answer }
+}
+
+// Merges the query that starts at a line's word into a stream.
+pub(crate) fn obey(m: Stream, line: &[u8], k: usize, frontends: u8) -> Obeyed {
+    let q = read(line, script::start(line, k), frontends);
+    if q.is_known {
+        return answered(merge(m, q, line));
+    }
+    Obeyed {
+        stream: m,
+        answer: Answer::Unknown,
+    }
 }

@@ -24,10 +24,11 @@ pub(crate) fn outcome(label: &[u8], outcome: Outcome) {
 
 // The numbers that a call may move, to the end of the line.
 pub(crate) fn state(t: SatBox) {
-    out::number(b", clock ", t.clock);
-    out::number(b" sequence ", t.sequence as u32);
-    out::number(b" held ", t.held);
-    out::number(b" open ", table::count_open(t));
+    out::text(b",");
+    out::numbers(
+        b"clock sequence held open",
+        &[t.clock, t.sequence as u32, t.held, table::count_open(t)],
+    );
     out::text(b"\n");
 }
 
@@ -44,24 +45,34 @@ pub(crate) fn records(journal: &[u8], before: u32, after: u32) {
 
 pub(crate) fn session(s: Session) {
     out::hex(b" session ", s.number);
-    out::number(b" stream ", s.stream as u32);
-    out::number(b" owner ", s.owner as u32);
-    out::number(b" playing ", s.playing as u32);
-    out::number(b" last ", s.last);
-    out::number(b" port ", s.port);
+    out::numbers(
+        b"stream owner playing last port",
+        &[
+            s.stream as u32,
+            s.owner as u32,
+            s.playing as u32,
+            s.last,
+            s.port,
+        ],
+    );
     out::address(b" address ", s.address);
 }
 
 fn values(v: Values) {
-    out::number(b" src ", v.src);
-    out::number(b" freq ", v.freq);
-    out::number(b" pol ", v.pol);
-    out::number(b" msys ", v.msys);
-    out::number(b" mtype ", v.mtype);
-    out::number(b" plts ", v.plts);
-    out::number(b" ro ", v.ro);
-    out::number(b" sr ", v.sr);
-    out::number(b" fec ", v.fec);
+    out::numbers(
+        b"src freq pol msys mtype plts ro sr fec",
+        &[
+            v.src,
+            v.freq,
+            v.pol,
+            v.msys,
+            v.mtype,
+            v.plts,
+            v.ro,
+            v.sr,
+            v.fec,
+        ],
+    );
 }
 
 // The first PIDs of an array.
@@ -81,8 +92,7 @@ pub(crate) fn stream(m: Stream) {
     let v = m.values;
     out::number(b" frontend ", m.frontend as u32);
     values(v);
-    out::number(b" all ", m.all as u32);
-    out::number(b" pids ", m.count as u32);
+    out::numbers(b"all pids", &[m.all as u32, m.count as u32]);
     out::text(b":");
     pids(m);
 }

@@ -1,12 +1,16 @@
 -- A table that is well formed stays so: a fresh box is, and whatever a tick, a collection, a merged query, an opening or a closing leaves.
 -- Assumes nothing.
-use mathlib.Core.Path.{_≡_, refl, _∙_}
+use mathlib.Core.Path.{_≡_, refl, _∙_, ap}
 use mathlib.Core.Bool.{true}
 use mathlib.Core.List.{List, _∷_}
 use Prim.Native.Nat.{ℕ}
 use native.Mathlib.Omega.{arith}
 use Rattle.stream.specs.Streams.{pastStream, isSound}
+use Rattle.stream.specs.Values.{areFit}
+use Rattle.stream.specs.Merging.{mergeOf}
 use Rattle.stream.specs.declared.Stream.{Stream}
+use Rattle.stream.specs.declared.Outcome.the-variants.{Merged}
+use Rattle.stream.proofs.Keeping.{merge-sound, merge-frontend}
 use Rattle.table.specs.Table.{streamOf}
 use Rattle.table.specs.Formed.{areSizes, wellFormed}
 use Rattle.table.specs.Made.{fresh}
@@ -14,7 +18,7 @@ use Rattle.table.specs.declared.SatBox.{SatBox}
 use Rattle.table.specs.declared.Outcome.{Outcome}
 use Rattle.table.specs.declared.Outcome.the-variants.{Done, Refused}
 use Rattle.table.proofs.Rules.{formed, formed-back}
-use Rattle.table.proofs.Changes.{seats-fed, rows-fed, by-id}
+use Rattle.table.proofs.Changes.{seats-fed, sound-at, rows-fed, by-id}
 use Rattle.table.proofs.Fresh.{fresh-formed}
 use Rattle.satbox.specs.Did.{restreamed}
 use Rattle.satbox.specs.Closing.{sweeping, atClock}
@@ -80,3 +84,10 @@ restreamed-whole id m t w h good e =
       places = w .places;
       rows = with-length id m (t .streams) ∙ w .rows;
     }
+
+pub merged-whole : (id : ℕ) (codes pids delpids addpids : List ℕ) (t : SatBox) → Whole t → (streamOf t id .frontend ≡ 0 → ⊥) → areFit codes ≡ true → mergeOf (streamOf t id) codes pids delpids addpids .outcome ≡ Merged
+    → Whole (restreamed id (mergeOf (streamOf t id) codes pids delpids addpids .stream) t)
+merged-whole id codes pids delpids addpids t w live fit e =
+    restreamed-whole id (mergeOf (streamOf t id) codes pids delpids addpids .stream) t w (λ q. live (ap (λ k. streamOf t k .frontend) q))
+    (merge-sound (streamOf t id) codes pids delpids addpids (t .frontends) (sound-at (t .frontends) (t .streams) (w .formed .rows) id) live fit e)
+    (merge-frontend (streamOf t id) codes pids delpids addpids)

@@ -166,10 +166,19 @@ pub none-sound : (frontends : ℕ) → isSound frontends noStream ≡ true
 unfolding isSound areZero areNone
 none-sound frontends = refl
 
+past-sound : (frontends : ℕ) → isSound frontends pastStream ≡ true
+unfolding isSound areZero areNone
+past-sound frontends = refl
+
 module _ (frontends : ℕ) (ms : List Stream) (r : Rows frontends ms) where
   sound-with : (id : ℕ) (x : Stream) → isSound frontends x ≡ true → (k : ℕ) → isSound frontends (getD (withStream id x ms) k pastStream) ≡ true
   sound-with zero x good k = r .sound k
   sound-with (suc i) x good k = getD-set-all (λ y. isSound frontends y ≡ true) ms i k x pastStream good (r .sound k)
+
+  -- the stream of every ID
+  pub sound-at : (id : ℕ) → isSound frontends (streamIn ms id) ≡ true
+  sound-at zero = past-sound frontends
+  sound-at (suc k) = r .sound k
 
   -- A STREAM GOES
   pub rows-freed : (id : ℕ) → Rows frontends (withStream id noStream ms)
