@@ -1,0 +1,131 @@
+-- Every answer fits its buffer: "the answer buffer is shorter than 4,096" is the only refusal for its length. Assumes nothing.
+use mathlib.Core.Path.{_≡_, refl, _∙_}
+use mathlib.Core.Bool.{Bool, true, false, cond, _&&_}
+use mathlib.Core.List.{List, []}
+use Prim.Native.Nat.{ℕ, _+_, _-_, _%_, _≤_, _<_}
+use Prim.Native.String.{String}
+use native.Mathlib.Omega.{arith}
+use lib.Dec.{eqb, leb}
+use lib.ListN.{length, length-append}
+use borrow.Author.Tests.{leb-true}
+use Rattle.scan.specs.Text.{text, _&_}
+use Rattle.scan.specs.declared.Span.{Span}
+use Rattle.scan.proofs.Bools.{and-both, cond-keeps}
+use Rattle.scan.proofs.Parts.{part-length}
+use Rattle.digits.specs.Writing.{decimal, hex8, dotted}
+use Rattle.digits.specs.declared.Read.{Read}
+use Rattle.digits.specs.declared.Read.the-variants.{Value, Nothing}
+use Rattle.digits.proofs.Numerals.{decimal-length, hex8-length, dotted-length}
+use Rattle.answer.specs.Lines.{_says_or_, reasonOf, statusLine, numbered, cseqLine, sessionLine, publicLine, allowLine, textAt, unsupportedLine, transportStart, portsText, transportLine, streamLine, rtpInfoLine}
+use Rattle.answer.specs.Answers.{optionsLines, setupLines, playLines, linesBy, linesOf, answerText}
+use Rattle.answer.specs.declared.Kind.{Kind}
+use Rattle.answer.specs.declared.Kind.the-variants.{Bare, Allow, Public, Unsupported, Options, Setup, Play, Teardown}
+use Rattle.answer.specs.declared.Answer.{Answer}
+
+-- numbers of 32 bits, as the code's are
+abbrev Is-small : ℕ → Type 0
+Is-small v = v < 4294967296
+
+abbrev Is-read : Read → Type 0
+Is-read (Value v) = Is-small v
+Is-read Nothing = Is-small 0
+
+pub record Small (a : Answer) : Type 0 where
+  pub status : Is-small (a .status)
+  pub cseq : Is-read (a .cseq)
+  pub session : Is-small (a .session)
+  pub stream : Is-small (a .stream)
+  pub address : Is-small (a .address)
+  pub port : Is-small (a .port)
+
+-- two texts in a row
+both-fit : (x y : List ℕ) (m n : ℕ) → length x ≤ m → length y ≤ n → length (x & y) ≤ m + n
+both-fit x y m n p q = rw length-append (omega arith)
+
+numbered-fits : (name : List ℕ) (v : ℕ) → Is-small v → length (numbered name v) ≤ length name + 12
+numbered-fits name v h = rw (length-append, length-append) (omega (arith, decimal-length 9 v (omega arith)))
+
+phrase : (b : Bool) (t : String) (rest : List ℕ) → length (text t) ≤ 30 → length rest ≤ 30 → length (b says t or rest) ≤ 30
+phrase true t rest h k = h
+phrase false t rest h k = k
+
+reason-fits : (status : ℕ) → length (reasonOf status) ≤ 30
+unfolding reasonOf
+reason-fits status =
+    phrase (eqb status 200) "OK" _ (omega arith)
+    (phrase (eqb status 400) "Bad Request" _ (omega arith)
+    (phrase (eqb status 403) "Forbidden" _ (omega arith)
+    (phrase (eqb status 404) "Not Found" _ (omega arith)
+    (phrase (eqb status 405) "Method Not Allowed" _ (omega arith)
+    (phrase (eqb status 414) "Request-URI Too Long" _ (omega arith)
+    (phrase (eqb status 454) "Session Not Found" _ (omega arith)
+    (phrase (eqb status 455) "Method Not Valid in This State" _ (omega arith)
+    (phrase (eqb status 461) "Unsupported Transport" _ (omega arith)
+    (phrase (eqb status 501) "Not Implemented" _ (omega arith)
+    (phrase (eqb status 503) "Service Unavailable" _ (omega arith)
+    (phrase (eqb status 505) "RTSP Version Not Supported" _ (omega arith)
+    (phrase (eqb status 551) "Option Not Supported" [] (omega arith) (omega arith)))))))))))))
+
+status-fits : (status : ℕ) → Is-small status → length (statusLine status) ≤ 52
+status-fits status h =
+    rw (length-append, length-append, length-append, length-append) (omega (arith, decimal-length 9 status (omega arith), reason-fits status))
+
+cseq-fits : (cseq : Read) → Is-read cseq → length (cseqLine cseq) ≤ 18
+cseq-fits (Value n) h = numbered-fits (text "CSeq: ") n h
+cseq-fits Nothing h = omega arith
+
+session-fits : (session : ℕ) (end : List ℕ) → length (sessionLine session end) ≡ 17 + length end
+session-fits session end = rw (length-append, length-append) (omega (arith, hex8-length session))
+
+text-fits : (request : List ℕ) (place : Span) → length (textAt request place) ≤ length request
+unfolding textAt
+text-fits request place =
+    cond-keeps (λ (l : List ℕ). length l ≤ length request) (leb (place .start) (place .end) && leb (place .end) (length request)) _ []
+    (λ e. let h = leb-true (place .end) (length request) (and-both (leb (place .start) (place .end)) _ e .1) in omega (arith, part-length (place .start) (place .end) request h))
+    (λ e. omega arith)
+
+-- the lines of each kind, beside what they take from the request
+module _ (request : List ℕ) (a : Answer) (s : Small a) where
+  options-fits : length (optionsLines a) ≤ 100
+  options-fits =
+      cond-keeps (λ (l : List ℕ). length l ≤ 100) (eqb (a .session) 0) publicLine _ (λ e. omega arith)
+      (λ e. rw length-append (omega (arith, session-fits (a .session) (text "\r\n"))))
+
+  transport-fits : length (transportLine (a .address) (a .port)) ≤ 90
+  transport-fits =
+      both-fit (transportStart (a .address)) (portsText (a .port)) 67 23
+      (both-fit (text "Transport: RTP/AVP;unicast;destination=") (dotted (a .address) & text ";client_port=") 39 28 (omega arith)
+      (both-fit (dotted (a .address)) (text ";client_port=") 15 13 (dotted-length (a .address) (s .address)) (omega arith)))
+      (both-fit (decimal (a .port)) (numbered (text "-") ((a .port + 1) % 4294967296)) 10 13 (decimal-length 9 (a .port) (omega (arith, s .port))) (numbered-fits (text "-") ((a .port + 1) % 4294967296) (omega arith)))
+
+  setup-fits : length (setupLines a) ≤ 150
+  setup-fits =
+      both-fit (sessionLine (a .session) (text ";timeout=60\r\n")) (transportLine (a .address) (a .port) & streamLine (a .stream)) 30 120 (omega (arith, session-fits (a .session) (text ";timeout=60\r\n")))
+      (both-fit (transportLine (a .address) (a .port)) (streamLine (a .stream)) 90 30 transport-fits (numbered-fits (text "com.ses.streamID: ") (a .stream) (s .stream)))
+
+  play-fits : length (playLines request a) ≤ 19 + (21 + (length request + 20))
+  play-fits =
+      both-fit (sessionLine (a .session) (text "\r\n")) (rtpInfoLine request (a .text) (a .stream)) 19 (21 + (length request + 20)) (omega (arith, session-fits (a .session) (text "\r\n")))
+      (both-fit (text "RTP-Info: url=rtsp://") (textAt request (a .text) & numbered (text "/stream=") (a .stream)) 21 (length request + 20) (omega arith)
+      (both-fit (textAt request (a .text)) (numbered (text "/stream=") (a .stream)) (length request) 20 (text-fits request (a .text)) (numbered-fits (text "/stream=") (a .stream) (s .stream))))
+
+  unsupported-fits : length (unsupportedLine request (a .text)) ≤ 100 + length request
+  unsupported-fits = rw (length-append, length-append) (omega (arith, text-fits request (a .text)))
+
+  lines-fit : (kind : Kind) → length (linesBy kind request a) ≤ 200 + length request
+  lines-fit Bare = omega arith
+  lines-fit Allow = omega arith
+  lines-fit Public = omega arith
+  lines-fit Unsupported = omega (arith, unsupported-fits)
+  lines-fit Options = omega (arith, options-fits)
+  lines-fit Setup = omega (arith, setup-fits)
+  lines-fit Play = omega (arith, play-fits)
+  lines-fit Teardown = omega (arith, session-fits (a .session) (text "\r\n"))
+
+  -- AN ANSWER FITS 4,096 BYTES, where the request is within its limit
+  pub answer-fits : length request ≤ 2048 → length (answerText request a) ≤ 4096
+  answer-fits h =
+      let n = both-fit (statusLine (a .status)) (cseqLine (a .cseq) & linesOf request a & text "\r\n") 52 (18 + ((200 + length request) + 2)) (status-fits (a .status) (s .status))
+      (both-fit (cseqLine (a .cseq)) (linesOf request a & text "\r\n") 18 ((200 + length request) + 2) (cseq-fits (a .cseq) (s .cseq))
+      (both-fit (linesOf request a) (text "\r\n") (200 + length request) 2 (lines-fit (a .kind)) (omega arith))) in
+      omega arith

@@ -1,0 +1,19 @@
+-- `answer::write` meets its contract. Assumes nothing.
+use borrow.Author.Needs.{needs}
+use Rattle.digits.proofs.Writes.{_then_}
+use Rattle.answer.proofs.write.Statement.{statement}
+use Rattle.answer.proofs.write.Tie as tie
+
+returns : tie.Need-returns
+returns c =
+    let c4 = c .before .before in
+    let c3 = c4 .before .before .before .before .before in
+    let c2 = c3 .before .before .before .before in
+    let c1 = c2 .before .before .before .before in
+    c1 .put-status .ensures
+    then c2 .put-cseq .ensures
+    then c3 .put-lines .ensures
+    then c4 .put .ensures
+
+pub write-spec : {M : Type 1} → statement M
+write-spec = tie.close (tie.spec (λ c κs. search needs) (λ c κs. search needs) (λ c κs. search needs) (λ c. search needs) (λ c κs. search needs) (λ c. search needs) returns)

@@ -1,0 +1,96 @@
+// An answer's text, written straight into a lent buffer, line by line: the status line, CSeq, what its kind adds, and the empty line. Every
+// byte is written once, and nothing is copied but a host and a Require value, from where they stand in the request.
+mod lines;
+
+ghost use mathlib.Core.Path.{_≡_};
+ghost use Rattle.digits.specs.Wrote.{Wrote};
+ghost use Rattle.answer.specs.Answers.{optionsLines, setupLines, playLines, linesOf, answerText};
+use digits::Read;
+use lines::put_allow;
+use lines::put_cseq;
+use lines::put_public;
+use lines::put_rtp_info;
+use lines::put_session;
+use lines::put_status;
+use lines::put_stream;
+use lines::put_transport;
+use lines::put_unsupported;
+use scan::Span;
+
+// What an answer carries after its CSeq.
+pub enum Kind {
+    Bare,
+    Allow,
+    Public,
+    Unsupported,
+    Options,
+    Setup,
+    Play,
+    Teardown,
+}
+
+// An answer: its kind says which of its fields are written. `session` is 0 where none is named, and `text` is where the host or the Require
+// value stands in the request.
+pub struct Answer {
+    pub kind: Kind,
+    pub status: u32,
+    pub cseq: Read,
+    pub session: u32,
+    pub stream: u32,
+    pub address: u32,
+    pub port: u32,
+    pub text: Span,
+}
+
+fn put_options(buf: &mut [u8], at: usize, a: Answer) -> usize
+    ensures { λ r. ⌜ Wrote (now (buf .entry)) at (optionsLines a) (now (buf .exit)) r ⌝ }
+{
+    if a.session == 0 {
+        return put_public(buf, at);
+    }
+    let n = put_session(buf, at, a.session, b"\r\n");
+    put_public(buf, n)
+}
+
+fn put_setup(buf: &mut [u8], at: usize, a: Answer) -> usize
+    ensures { λ r. ⌜ Wrote (now (buf .entry)) at (setupLines a) (now (buf .exit)) r ⌝ }
+{
+    let n = put_session(buf, at, a.session, b";timeout=60\r\n");
+    let m = put_transport(buf, n, a.address, a.port);
+    put_stream(buf, m, a.stream)
+}
+
+fn put_play(buf: &mut [u8], at: usize, a: Answer, request: &[u8]) -> usize
+    ensures { λ r. ⌜ Wrote (now (buf .entry)) at (playLines (now (request .entry)) a) (now (buf .exit)) r ⌝ }
+{
+    let n = put_session(buf, at, a.session, b"\r\n");
+    put_rtp_info(buf, n, request, a.text, a.stream)
+}
+
+// The lines of an answer's kind.
+fn put_lines(buf: &mut [u8], at: usize, a: Answer, request: &[u8]) -> usize
+    ensures { λ r. ⌜ Wrote (now (buf .entry)) at (linesOf (now (request .entry)) a) (now (buf .exit)) r ⌝ }
+{
+    let kind = a.kind;
+    match kind {
+        Kind::Bare => digits::put(buf, at, b""),
+        Kind::Allow => put_allow(buf, at),
+        Kind::Public => put_public(buf, at),
+        Kind::Unsupported => put_unsupported(buf, at, request, a.text),
+        Kind::Options => put_options(buf, at, a),
+        Kind::Setup => put_setup(buf, at, a),
+        Kind::Play => put_play(buf, at, a, request),
+        Kind::Teardown => put_session(buf, at, a.session, b"\r\n"),
+    }
+}
+
+// Writes an answer to the front of a buffer and returns its length, or one more than the buffer's where it does not fit.
+pub fn write(buf: &mut [u8], a: Answer, request: &[u8]) -> usize
+    ensures { λ r. ⌜ Wrote (now (buf .entry)) 0 (answerText (now (request .entry)) a) (now (buf .exit)) r ⌝ }
+{
+    let cseq = a.cseq;
+    let n = put_status(buf, 0, a.status);
+    let m = put_cseq(buf, n, cseq);
+    let k = put_lines(buf, m, a, request);
+    digits::put(buf, k, b"\r\n")
+}

@@ -1,0 +1,146 @@
+// The lines of an answer, one function each; each ends in CR LF.
+ghost use mathlib.Core.Path.{_≡_};
+ghost use Rattle.digits.specs.Wrote.{Wrote};
+ghost use Rattle.scan.specs.Text.{text};
+ghost use Rattle.answer.specs.Lines.{textAt, reasonOf, statusLine, cseqLine, sessionLine, publicLine, allowLine, unsupportedLine, transportStart, portsText, transportLine, streamLine, rtpInfoLine};
+use digits::Read;
+use scan::Span;
+
+// The reason phrase of a status; none where document 001 names none that the box gives.
+fn put_reason(buf: &mut [u8], at: usize, status: u32) -> usize
+    ensures { λ r. ⌜ Wrote (now (buf .entry)) at (reasonOf status) (now (buf .exit)) r ⌝ }
+{
+    match status {
+        200 => digits::put(buf, at, b"OK"),
+        400 => digits::put(buf, at, b"Bad Request"),
+        403 => digits::put(buf, at, b"Forbidden"),
+        404 => digits::put(buf, at, b"Not Found"),
+        405 => digits::put(buf, at, b"Method Not Allowed"),
+        414 => digits::put(buf, at, b"Request-URI Too Long"),
+        454 => digits::put(buf, at, b"Session Not Found"),
+        455 => digits::put(buf, at, b"Method Not Valid in This State"),
+        461 => digits::put(buf, at, b"Unsupported Transport"),
+        501 => digits::put(buf, at, b"Not Implemented"),
+        503 => digits::put(buf, at, b"Service Unavailable"),
+        505 => digits::put(buf, at, b"RTSP Version Not Supported"),
+        551 => digits::put(buf, at, b"Option Not Supported"),
+        _ => digits::put(buf, at, b""),
+    }
+}
+
+pub(crate) fn put_status(buf: &mut [u8], at: usize, status: u32) -> usize
+    ensures { λ r. ⌜ Wrote (now (buf .entry)) at (statusLine status) (now (buf .exit)) r ⌝ }
+{
+    let n = digits::put(buf, at, b"RTSP/1.0 ");
+    let m = digits::put_decimal(buf, n, status);
+    let k = digits::put(buf, m, b" ");
+    let l = put_reason(buf, k, status);
+    digits::put(buf, l, b"\r\n")
+}
+
+// The CSeq of a request that has one.
+pub(crate) fn put_cseq(buf: &mut [u8], at: usize, cseq: Read) -> usize
+    ensures { λ r. ⌜ Wrote (now (buf .entry)) at (cseqLine cseq) (now (buf .exit)) r ⌝ }
+{
+    match cseq {
+        Read::Value(v) => put_numbered(buf, at, b"CSeq: ", v),
+        Read::Nothing => digits::put(buf, at, b""),
+    }
+}
+
+// A name and a number.
+fn put_numbered(buf: &mut [u8], at: usize, name: &[u8], v: u32) -> usize
+    ensures { λ r. ⌜ Wrote (now (buf .entry)) at (Rattle.answer.specs.Lines.numbered (now (name .entry)) v) (now (buf .exit)) r ⌝ }
+{
+    let n = digits::put(buf, at, name);
+    let m = digits::put_decimal(buf, n, v);
+    digits::put(buf, m, b"\r\n")
+}
+
+// A session's number, and how its line ends.
+pub(crate) fn put_session(buf: &mut [u8], at: usize, session: u32, end: &[u8]) -> usize
+    ensures { λ r. ⌜ Wrote (now (buf .entry)) at (sessionLine session (now (end .entry))) (now (buf .exit)) r ⌝ }
+{
+    let n = digits::put(buf, at, b"Session: ");
+    let m = digits::put_hex(buf, n, session);
+    digits::put(buf, m, end)
+}
+
+pub(crate) fn put_public(buf: &mut [u8], at: usize) -> usize
+    ensures { λ r. ⌜ Wrote (now (buf .entry)) at publicLine (now (buf .exit)) r ⌝ }
+{
+    digits::put(buf, at, b"Public: OPTIONS, SETUP, PLAY, TEARDOWN\r\n")
+}
+
+pub(crate) fn put_allow(buf: &mut [u8], at: usize) -> usize
+    ensures { λ r. ⌜ Wrote (now (buf .entry)) at allowLine (now (buf .exit)) r ⌝ }
+{
+    digits::put(buf, at, b"Allow: OPTIONS\r\n")
+}
+
+// What stands at a place of the request; nothing where there is no such place.
+fn put_part(buf: &mut [u8], at: usize, request: &[u8], place: Span) -> usize
+    ensures { λ r. ⌜ Wrote (now (buf .entry)) at (textAt (now (request .entry)) place) (now (buf .exit)) r ⌝ }
+{
+    let start = place.start;
+    let end = place.end;
+    if end < start {
+        return digits::put(buf, at, b"");
+    }
+    if request.len() < end {
+        return digits::put(buf, at, b"");
+    }
+    digits::put(buf, at, &request[start..end])
+}
+
+pub(crate) fn put_unsupported(buf: &mut [u8], at: usize, request: &[u8], value: Span) -> usize
+    ensures { λ r. ⌜ Wrote (now (buf .entry)) at (unsupportedLine (now (request .entry)) value) (now (buf .exit)) r ⌝ }
+{
+    let n = digits::put(buf, at, b"Unsupported: ");
+    let m = put_part(buf, n, request, value);
+    digits::put(buf, m, b"\r\n")
+}
+
+fn put_destination(buf: &mut [u8], at: usize, address: u32) -> usize
+    ensures { λ r. ⌜ Wrote (now (buf .entry)) at (transportStart address) (now (buf .exit)) r ⌝ }
+{
+    let n = digits::put(buf, at, b"Transport: RTP/AVP;unicast;destination=");
+    let m = digits::put_dotted(buf, n, address);
+    digits::put(buf, m, b";client_port=")
+}
+
+// The ports `a-b`.
+fn put_ports(buf: &mut [u8], at: usize, port: u32) -> usize
+    ensures { λ r. ⌜ Wrote (now (buf .entry)) at (portsText port) (now (buf .exit)) r ⌝ }
+{
+    let second = std::num::wrapping_add_u32(port, 1);
+    let n = digits::put_decimal(buf, at, port);
+    put_numbered(buf, n, b"-", second)
+}
+
+pub(crate) fn put_transport(buf: &mut [u8], at: usize, address: u32, port: u32) -> usize
+    ensures { λ r. ⌜ Wrote (now (buf .entry)) at (transportLine address port) (now (buf .exit)) r ⌝ }
+{
+    let n = put_destination(buf, at, address);
+    put_ports(buf, n, port)
+}
+
+pub(crate) fn put_stream(buf: &mut [u8], at: usize, stream: u32) -> usize
+    ensures { λ r. ⌜ Wrote (now (buf .entry)) at (streamLine stream) (now (buf .exit)) r ⌝ }
+{
+    put_numbered(buf, at, b"com.ses.streamID: ", stream)
+}
+
+pub(crate) fn put_rtp_info(
+    buf: &mut [u8],
+    at: usize,
+    request: &[u8],
+    host: Span,
+    stream: u32,
+) -> usize
+    ensures { λ r. ⌜ Wrote (now (buf .entry)) at (rtpInfoLine (now (request .entry)) host stream) (now (buf .exit)) r ⌝ }
+{
+    let n = digits::put(buf, at, b"RTP-Info: url=rtsp://");
+    let m = put_part(buf, n, request, host);
+    put_numbered(buf, m, b"/stream=", stream)
+}
