@@ -1,6 +1,6 @@
 -- Every answer fits its buffer: "the answer buffer is shorter than 4,096" is the only refusal for its length. Assumes nothing.
-use mathlib.Core.Path.{_≡_, refl, _∙_}
-use mathlib.Core.Bool.{Bool, true, false, cond, _&&_}
+use mathlib.Core.Path.{_≡_}
+use mathlib.Core.Bool.{Bool, true, false, _&&_}
 use mathlib.Core.List.{List, []}
 use Prim.Native.Nat.{ℕ, _+_, _-_, _%_, _≤_, _<_}
 use Prim.Native.String.{String}
@@ -12,11 +12,11 @@ use Rattle.scan.specs.Text.{text, _&_}
 use Rattle.scan.specs.declared.Span.{Span}
 use Rattle.scan.proofs.Bools.{and-both, cond-keeps}
 use Rattle.scan.proofs.Parts.{part-length}
-use Rattle.digits.specs.Writing.{decimal, hex8, dotted}
+use Rattle.digits.specs.Writing.{decimal, dotted}
 use Rattle.digits.specs.declared.Read.{Read}
 use Rattle.digits.specs.declared.Read.the-variants.{Value, Nothing}
 use Rattle.digits.proofs.Numerals.{decimal-length, hex8-length, dotted-length}
-use Rattle.answer.specs.Lines.{_says_or_, reasonOf, statusLine, numbered, cseqLine, sessionLine, publicLine, allowLine, textAt, unsupportedLine, transportStart, portsText, transportLine, streamLine, rtpInfoLine}
+use Rattle.answer.specs.Lines.{_says_or_, reasonOf, statusLine, numbered, cseqLine, sessionLine, publicLine, textAt, unsupportedLine, transportStart, portsText, transportLine, streamLine, rtpInfoLine}
 use Rattle.answer.specs.Answers.{optionsLines, setupLines, playLines, linesBy, linesOf, answerText}
 use Rattle.answer.specs.declared.Kind.{Kind}
 use Rattle.answer.specs.declared.Kind.the-variants.{Bare, Allow, Public, Unsupported, Options, Setup, Play, Teardown}

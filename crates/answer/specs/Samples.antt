@@ -1,10 +1,10 @@
 -- Answers by example, by computation. Assumes nothing.
 use mathlib.Core.Path.{_≡_, refl}
-use mathlib.Core.List.{List, []}
+use mathlib.Core.List.{[]}
 use Prim.Native.Nat.{ℕ}
 use Rattle.scan.specs.Text.{text, _&_}
 use Rattle.digits.specs.Writing.{decimal, hex8, dotted, width, numeral}
-use Rattle.digits.specs.declared.Read.the-variants.{Value, Nothing}
+use Rattle.digits.specs.declared.Read.the-variants.{Value}
 use Rattle.answer.specs.Lines.{reasonOf, textAt}
 use Rattle.answer.specs.Answers.{answerText}
 use Rattle.answer.specs.declared.Kind.{Kind}

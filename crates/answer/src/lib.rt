@@ -2,7 +2,6 @@
 // byte is written once, and nothing is copied but a host and a Require value, from where they stand in the request.
 mod lines;
 
-ghost use mathlib.Core.Path.{_≡_};
 ghost use Rattle.digits.specs.Wrote.{Wrote};
 ghost use Rattle.answer.specs.Answers.{optionsLines, setupLines, playLines, linesOf, answerText};
 use digits::Read;

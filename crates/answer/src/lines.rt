@@ -1,7 +1,5 @@
 // The lines of an answer, one function each; each ends in CR LF.
-ghost use mathlib.Core.Path.{_≡_};
 ghost use Rattle.digits.specs.Wrote.{Wrote};
-ghost use Rattle.scan.specs.Text.{text};
 ghost use Rattle.answer.specs.Lines.{textAt, reasonOf, statusLine, cseqLine, sessionLine, publicLine, allowLine, unsupportedLine, transportStart, portsText, transportLine, streamLine, rtpInfoLine};
 use digits::Read;
 use scan::Span;
