@@ -30,6 +30,10 @@ pub record Whole (t : SatBox) : Type 0 where
   pub places : length (t .sessions) ≡ 32
   pub rows : length (t .streams) ≡ 8
 
+-- F is at most 8, and C at most 65,536
+pub few-frontends : (frontends size : ℕ) → areSizes frontends size ≡ true → frontends ≤ 8
+few-frontends frontends size e = leb-true _ _ (and-both (leb 1 frontends) _ (and-both (isBetween 1 8 frontends) _ e .0) .1)
+
 size-small : (frontends size : ℕ) → areSizes frontends size ≡ true → size ≤ 65536
 size-small frontends size e =
     leb-true _ _ (and-both (leb 1024 size) _ (and-both (isBetween 1024 65536 size) _ (and-both (isBetween 1 8 frontends) _ e .1) .0) .1)

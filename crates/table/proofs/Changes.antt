@@ -10,15 +10,15 @@ use lib.Seq.{getD-set-other, getD-set-same}
 use borrow.Author.Tests.{ne-eqb, eq-eqb, eqb-true, eqb-false, not-true, leb-true, le-leb}
 use Rattle.scan.specs.Classes.{isBetween}
 use Rattle.scan.proofs.Bools.{never, and-both, Case, is, isnt, case, Same, same, other, sames, both}
-use Rattle.stream.specs.Values.{areNone}
-use Rattle.stream.specs.Streams.{noStream, pastStream, isSound, areZero}
+use Rattle.stream.specs.Streams.{noStream, pastStream, isSound}
 use Rattle.stream.specs.declared.Stream.{Stream}
+use Rattle.stream.proofs.Soundness.{none-sound}
 use Rattle.table.specs.Counts.{bit, count}
 use Rattle.table.specs.Table.{noSession, has, isFree, isOpen, streamIn, withStream, isOn, owns}
 use Rattle.table.specs.Formed.{isProper, isSeated, isEmpty}
 use Rattle.table.specs.declared.Session.{Session}
 use Rattle.table.proofs.Counts.{bit-no, bit-yes, count-le, count-set, count-zero-at, count-set-le, count-set-same, cleared, count-cleared-le, count-cleared-same, count-cleared-none, all-cleared, once-set, getD-set-all, getD-set-alike, getD-set-here}
-use Rattle.table.proofs.Rules.{fed, Seats, Rows, AreProper}
+use Rattle.table.proofs.Rules.{fed, Seats, Rows, AreProper, past-sound}
 
 -- a session on the stream of an ID, made none
 abbrev pub clear : ℕ → Session → Session
@@ -161,14 +161,6 @@ by-id ms (suc k) x h = refl
 -- and so it is not 0
 pub seated-id : (l : List Session) (ms : List Stream) → Seats l (pastStream ∷ ms) → (i : ℕ) → (getD l i noSession .number ≡ 0 → ⊥) → getD l i noSession .stream ≡ 0 → ⊥
 seated-id l ms r i some q = seated-live l (pastStream ∷ ms) r i some (ap (λ k. streamIn ms k .frontend) q)
-
-pub none-sound : (frontends : ℕ) → isSound frontends noStream ≡ true
-unfolding isSound areZero areNone
-none-sound frontends = refl
-
-past-sound : (frontends : ℕ) → isSound frontends pastStream ≡ true
-unfolding isSound areZero areNone
-past-sound frontends = refl
 
 module _ (frontends : ℕ) (ms : List Stream) (r : Rows frontends ms) where
   sound-with : (id : ℕ) (x : Stream) → isSound frontends x ≡ true → (k : ℕ) → isSound frontends (getD (withStream id x ms) k pastStream) ≡ true

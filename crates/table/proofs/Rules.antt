@@ -35,6 +35,10 @@ pub record Rows (frontends : ℕ) (ms : List Stream) : Type 0 where
   pub feeds : (f : ℕ) → (f ≡ 0 → ⊥) → count (fed f) ms ≤ 1
   pub sound : (k : ℕ) → isSound frontends (getD ms k pastStream) ≡ true
 
+pub past-sound : (frontends : ℕ) → isSound frontends pastStream ≡ true
+unfolding isSound areZero areNone
+past-sound frontends = refl
+
 -- the rules of the sessions' own values
 abbrev pub AreProper : ℕ → List Session → Type 0
 AreProper clock l = (i : ℕ) → isProper clock (getD l i noSession) ≡ true
@@ -111,7 +115,7 @@ module _ (t : SatBox) where
         rows =
             record {
               feeds = λ n z. rw (sym (count-map (is-number n) (λ m. m .frontend) (t .streams))) (distinct-count (frontendsOf (t .streams)) (f .0) n z);
-              sound = λ k. all-at (isSound (t .frontends)) (t .streams) k pastStream (unfold isSound areZero areNone in refl) (g .0);
+              sound = λ k. all-at (isSound (t .frontends)) (t .streams) k pastStream (past-sound (t .frontends)) (g .0);
             };
         proper = λ k. all-at (isProper (t .clock)) (t .sessions) k noSession (unfold isEmpty in refl) (h .0);
         fits = record { whole = eqb-true _ _ (i .0); bound = leb-true _ _ (i .1) };
