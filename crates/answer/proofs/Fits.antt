@@ -17,7 +17,7 @@ use Rattle.digits.specs.declared.Read.{Read}
 use Rattle.digits.specs.declared.Read.the-variants.{Value, Nothing}
 use Rattle.digits.proofs.Numerals.{decimal-length, hex8-length, dotted-length}
 use Rattle.answer.specs.Lines.{_says_or_, reasonOf, statusLine, numbered, cseqLine, sessionLine, publicLine, textAt, unsupportedLine, transportStart, portsText, transportLine, streamLine, rtpInfoLine}
-use Rattle.answer.specs.Answers.{optionsLines, setupLines, playLines, linesBy, linesOf, answerText}
+use Rattle.answer.specs.Answers.{optionsLines, setupLines, playLines, linesBy, linesOf, answerWith}
 use Rattle.answer.specs.declared.Kind.{Kind}
 use Rattle.answer.specs.declared.Kind.the-variants.{Bare, Allow, Public, Unsupported, Options, Setup, Play, Teardown}
 use Rattle.answer.specs.declared.Answer.{Answer}
@@ -77,15 +77,15 @@ cseq-fits Nothing h = omega arith
 session-fits : (session : ℕ) (end : List ℕ) → length (sessionLine session end) ≡ 17 + length end
 session-fits session end = rw (length-append, length-append) (omega (arith, hex8-length session))
 
-text-fits : (request : List ℕ) (place : Span) → length (textAt request place) ≤ length request
+pub text-fits : (request : List ℕ) (place : Span) → length (textAt request place) ≤ length request
 unfolding textAt
 text-fits request place =
     cond-keeps (λ (l : List ℕ). length l ≤ length request) (leb (place .start) (place .end) && leb (place .end) (length request)) _ []
     (λ e. let h = leb-true (place .end) (length request) (and-both (leb (place .start) (place .end)) _ e .1) in omega (arith, part-length (place .start) (place .end) request h))
     (λ e. omega arith)
 
--- the lines of each kind, beside what they take from the request
-module _ (request : List ℕ) (a : Answer) (s : Small a) where
+-- the lines of each kind, beside the word that they take from the request
+module _ (word : List ℕ) (a : Answer) (s : Small a) where
   options-fits : length (optionsLines a) ≤ 100
   options-fits =
       cond-keeps (λ (l : List ℕ). length l ≤ 100) (eqb (a .session) 0) publicLine _ (λ e. omega arith)
@@ -103,16 +103,16 @@ module _ (request : List ℕ) (a : Answer) (s : Small a) where
       both-fit (sessionLine (a .session) (text ";timeout=60\r\n")) (transportLine (a .address) (a .port) & streamLine (a .stream)) 30 120 (omega (arith, session-fits (a .session) (text ";timeout=60\r\n")))
       (both-fit (transportLine (a .address) (a .port)) (streamLine (a .stream)) 90 30 transport-fits (numbered-fits (text "com.ses.streamID: ") (a .stream) (s .stream)))
 
-  play-fits : length (playLines request a) ≤ 19 + (21 + (length request + 20))
+  play-fits : length (playLines word a) ≤ 19 + (21 + (length word + 20))
   play-fits =
-      both-fit (sessionLine (a .session) (text "\r\n")) (rtpInfoLine request (a .text) (a .stream)) 19 (21 + (length request + 20)) (omega (arith, session-fits (a .session) (text "\r\n")))
-      (both-fit (text "RTP-Info: url=rtsp://") (textAt request (a .text) & numbered (text "/stream=") (a .stream)) 21 (length request + 20) (omega arith)
-      (both-fit (textAt request (a .text)) (numbered (text "/stream=") (a .stream)) (length request) 20 (text-fits request (a .text)) (numbered-fits (text "/stream=") (a .stream) (s .stream))))
+      both-fit (sessionLine (a .session) (text "\r\n")) (rtpInfoLine word (a .stream)) 19 (21 + (length word + 20)) (omega (arith, session-fits (a .session) (text "\r\n")))
+      (both-fit (text "RTP-Info: url=rtsp://") (word & numbered (text "/stream=") (a .stream)) 21 (length word + 20) (omega arith)
+      (both-fit word (numbered (text "/stream=") (a .stream)) (length word) 20 (omega arith) (numbered-fits (text "/stream=") (a .stream) (s .stream))))
 
-  unsupported-fits : length (unsupportedLine request (a .text)) ≤ 100 + length request
-  unsupported-fits = rw (length-append, length-append) (omega (arith, text-fits request (a .text)))
+  unsupported-fits : length (unsupportedLine word) ≤ 100 + length word
+  unsupported-fits = rw (length-append, length-append) (omega arith)
 
-  lines-fit : (kind : Kind) → length (linesBy kind request a) ≤ 200 + length request
+  lines-fit : (kind : Kind) → length (linesBy kind word a) ≤ 200 + length word
   lines-fit Bare = omega arith
   lines-fit Allow = omega arith
   lines-fit Public = omega arith
@@ -123,9 +123,9 @@ module _ (request : List ℕ) (a : Answer) (s : Small a) where
   lines-fit Teardown = omega (arith, session-fits (a .session) (text "\r\n"))
 
   -- AN ANSWER FITS 4,096 BYTES, where the request is within its limit
-  pub answer-fits : length request ≤ 2048 → length (answerText request a) ≤ 4096
+  pub answer-fits : length word ≤ 2048 → length (answerWith word a) ≤ 4096
   answer-fits h =
-      let n = both-fit (statusLine (a .status)) (cseqLine (a .cseq) & linesOf request a & text "\r\n") 52 (18 + ((200 + length request) + 2)) (status-fits (a .status) (s .status))
-      (both-fit (cseqLine (a .cseq)) (linesOf request a & text "\r\n") 18 ((200 + length request) + 2) (cseq-fits (a .cseq) (s .cseq))
-      (both-fit (linesOf request a) (text "\r\n") (200 + length request) 2 (lines-fit (a .kind)) (omega arith))) in
+      let n = both-fit (statusLine (a .status)) (cseqLine (a .cseq) & linesOf word a & text "\r\n") 52 (18 + ((200 + length word) + 2)) (status-fits (a .status) (s .status))
+      (both-fit (cseqLine (a .cseq)) (linesOf word a & text "\r\n") 18 ((200 + length word) + 2) (cseq-fits (a .cseq) (s .cseq))
+      (both-fit (linesOf word a) (text "\r\n") (200 + length word) 2 (lines-fit (a .kind)) (omega arith))) in
       omega arith

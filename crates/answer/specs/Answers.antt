@@ -4,7 +4,7 @@ use mathlib.Core.Bool.{cond}
 use mathlib.Core.List.{List, []}
 use lib.Dec.{eqb}
 use Rattle.scan.specs.Text.{text, _&_}
-use Rattle.answer.specs.Lines.{statusLine, cseqLine, sessionLine, publicLine, allowLine, unsupportedLine, transportLine, streamLine, rtpInfoLine}
+use Rattle.answer.specs.Lines.{textAt, statusLine, cseqLine, sessionLine, publicLine, allowLine, unsupportedLine, transportLine, streamLine, rtpInfoLine}
 use Rattle.answer.specs.declared.Kind.{Kind}
 use Rattle.answer.specs.declared.Kind.the-variants.{Bare, Allow, Public, Unsupported, Options, Setup, Play, Teardown}
 use Rattle.answer.specs.declared.Answer.{Answer}
@@ -19,22 +19,26 @@ setupLines a = sessionLine (a .session) (text ";timeout=60\r\n") & transportLine
 
 -- "PLAY Session, `RTP-Info: ..`"
 abbrev pub playLines : List ℕ → Answer → List ℕ
-playLines request a = sessionLine (a .session) (text "\r\n") & rtpInfoLine request (a .text) (a .stream)
+playLines host a = sessionLine (a .session) (text "\r\n") & rtpInfoLine host (a .stream)
 
--- what an answer carries after its CSeq; "TEARDOWN Session", "501 carries the same Public line"
+-- what an answer carries after its CSeq, with the host or the Require value that it repeats; "TEARDOWN Session", "501 carries the same Public line"
 abbrev pub linesBy : Kind → List ℕ → Answer → List ℕ
-linesBy Bare request a = []
-linesBy Allow request a = allowLine
-linesBy Public request a = publicLine
-linesBy Unsupported request a = unsupportedLine request (a .text)
-linesBy Options request a = optionsLines a
-linesBy Setup request a = setupLines a
-linesBy Play request a = playLines request a
-linesBy Teardown request a = sessionLine (a .session) (text "\r\n")
+linesBy Bare word a = []
+linesBy Allow word a = allowLine
+linesBy Public word a = publicLine
+linesBy Unsupported word a = unsupportedLine word
+linesBy Options word a = optionsLines a
+linesBy Setup word a = setupLines a
+linesBy Play word a = playLines word a
+linesBy Teardown word a = sessionLine (a .session) (text "\r\n")
 
 abbrev pub linesOf : List ℕ → Answer → List ℕ
-linesOf request a = linesBy (a .kind) request a
+linesOf word a = linesBy (a .kind) word a
 
 -- "`RTSP/1.0 `, code, space, reason; then `CSeq: n`; then ..; An empty line ends it; no body."
+abbrev pub answerWith : List ℕ → Answer → List ℕ
+answerWith word a = statusLine (a .status) & cseqLine (a .cseq) & linesOf word a & text "\r\n"
+
+-- the same where that word stands at a place of the request
 abbrev pub answerText : List ℕ → Answer → List ℕ
-answerText request a = statusLine (a .status) & cseqLine (a .cseq) & linesOf request a & text "\r\n"
+answerText request a = answerWith (textAt request (a .text)) a

@@ -64,8 +64,8 @@ textAt request place =
     cond (leb (place .start) (place .end) && leb (place .end) (length request)) (part (place .start) (place .end) request) []
 
 -- "`Unsupported: ` and its value"
-abbrev pub unsupportedLine : List ℕ → Span → List ℕ
-unsupportedLine request value = text "Unsupported: " & textAt request value & text "\r\n"
+abbrev pub unsupportedLine : List ℕ → List ℕ
+unsupportedLine value = text "Unsupported: " & value & text "\r\n"
 
 -- "`Transport: RTP/AVP;unicast;destination=` dotted address `;client_port=a-b`"
 abbrev pub transportStart : ℕ → List ℕ
@@ -83,5 +83,5 @@ abbrev pub streamLine : ℕ → List ℕ
 streamLine stream = numbered (text "com.ses.streamID: ") stream
 
 -- "`RTP-Info: url=rtsp://` host without port `/stream=n`"
-abbrev pub rtpInfoLine : List ℕ → Span → ℕ → List ℕ
-rtpInfoLine request host stream = text "RTP-Info: url=rtsp://" & textAt request host & numbered (text "/stream=") stream
+abbrev pub rtpInfoLine : List ℕ → ℕ → List ℕ
+rtpInfoLine host stream = text "RTP-Info: url=rtsp://" & host & numbered (text "/stream=") stream

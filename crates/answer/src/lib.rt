@@ -3,6 +3,7 @@
 mod lines;
 
 ghost use Rattle.digits.specs.Wrote.{Wrote};
+ghost use Rattle.answer.specs.Lines.{textAt};
 ghost use Rattle.answer.specs.Answers.{optionsLines, setupLines, playLines, linesOf, answerText};
 use digits::Read;
 use lines::put_allow;
@@ -60,7 +61,7 @@ fn put_setup(buf: &mut [u8], at: usize, a: Answer) -> usize
 }
 
 fn put_play(buf: &mut [u8], at: usize, a: Answer, request: &[u8]) -> usize
-    ensures { λ r. ⌜ Wrote (now (buf .entry)) at (playLines (now (request .entry)) a) (now (buf .exit)) r ⌝ }
+    ensures { λ r. ⌜ Wrote (now (buf .entry)) at (playLines (textAt (now (request .entry)) (a .text)) a) (now (buf .exit)) r ⌝ }
 {
     let n = put_session(buf, at, a.session, b"\r\n");
     put_rtp_info(buf, n, request, a.text, a.stream)
@@ -68,7 +69,7 @@ fn put_play(buf: &mut [u8], at: usize, a: Answer, request: &[u8]) -> usize
 
 // The lines of an answer's kind.
 fn put_lines(buf: &mut [u8], at: usize, a: Answer, request: &[u8]) -> usize
-    ensures { λ r. ⌜ Wrote (now (buf .entry)) at (linesOf (now (request .entry)) a) (now (buf .exit)) r ⌝ }
+    ensures { λ r. ⌜ Wrote (now (buf .entry)) at (linesOf (textAt (now (request .entry)) (a .text)) a) (now (buf .exit)) r ⌝ }
 {
     let kind = a.kind;
     match kind {

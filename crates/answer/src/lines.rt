@@ -92,7 +92,7 @@ fn put_part(buf: &mut [u8], at: usize, request: &[u8], place: Span) -> usize
 }
 
 pub(crate) fn put_unsupported(buf: &mut [u8], at: usize, request: &[u8], value: Span) -> usize
-    ensures { λ r. ⌜ Wrote (now (buf .entry)) at (unsupportedLine (now (request .entry)) value) (now (buf .exit)) r ⌝ }
+    ensures { λ r. ⌜ Wrote (now (buf .entry)) at (unsupportedLine (textAt (now (request .entry)) value)) (now (buf .exit)) r ⌝ }
 {
     let n = digits::put(buf, at, b"Unsupported: ");
     let m = put_part(buf, n, request, value);
@@ -136,7 +136,7 @@ pub(crate) fn put_rtp_info(
     host: Span,
     stream: u32,
 ) -> usize
-    ensures { λ r. ⌜ Wrote (now (buf .entry)) at (rtpInfoLine (now (request .entry)) host stream) (now (buf .exit)) r ⌝ }
+    ensures { λ r. ⌜ Wrote (now (buf .entry)) at (rtpInfoLine (textAt (now (request .entry)) host) stream) (now (buf .exit)) r ⌝ }
 {
     let n = digits::put(buf, at, b"RTP-Info: url=rtsp://");
     let m = put_part(buf, n, request, host);
