@@ -1,6 +1,5 @@
 pub mod DoesLaws
 pub mod Closings
-pub mod Places
 pub mod Runs
 pub mod Keeping
 pub mod Openings

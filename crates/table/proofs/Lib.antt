@@ -8,3 +8,4 @@ pub mod Fresh
 pub mod Rules
 pub mod Changes
 pub mod FreeIds
+pub mod Ids

@@ -1,0 +1,5 @@
+pub mod Cases
+pub mod Asked
+pub mod Sights
+pub mod Steps
+pub mod Replies
