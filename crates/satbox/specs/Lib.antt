@@ -4,3 +4,6 @@ pub mod Closing
 pub mod Opening
 pub mod Calls
 pub mod Orders
+pub mod Serving
+pub mod Branches
+pub mod Requests

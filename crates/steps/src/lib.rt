@@ -12,7 +12,7 @@ pub use replies::answer_to;
 ghost use mathlib.Core.Path.{_≡_};
 ghost use Rattle.table.specs.Table.{sessionAt};
 ghost use Rattle.steps.specs.Asked.{askedBy};
-ghost use Rattle.steps.specs.Sights.{isAbsent, placeNamed, portOf, sightOf};
+ghost use Rattle.steps.specs.Sights.{isAbsent, placeOpen, placeNamed, portOf, sightOf};
 ghost use Rattle.steps.specs.Steps.{tableCase};
 use aim::Method;
 use reader::Request;
@@ -46,7 +46,7 @@ fn is_absent(sent: reader::Session) -> bool
 }
 
 fn place_of(t: SatBox, n: u32) -> usize
-    ensures { λ r. ⌜ r ≡ Rattle.steps.specs.Sights.placeOpen n t ⌝ }
+    ensures { λ r. ⌜ r ≡ placeOpen n t ⌝ }
 {
     if n == 0 {
         return SatBox::SESSIONS;
@@ -121,7 +121,7 @@ pub fn case_of(v: Sight) -> Case
     if tests::is_out_of_state(v) {
         return Case::State;
     }
-    if tests::is_another_s(v) {
+    if tests::is_anothers(v) {
         return Case::NotOwner;
     }
     if tests::lacks_port(v) {

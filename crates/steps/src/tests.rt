@@ -1,11 +1,9 @@
 // The test of each of steps 11 to 15.
 ghost use mathlib.Core.Path.{_≡_};
-ghost use Rattle.table.specs.Table.{owns};
 ghost use Rattle.steps.specs.Steps.{isSetup, needsSession, looksUp, lacksSession, isDead, isElsewhere, isOutOfState, isAnothers, lacksPort};
 use crate::Sight;
 use aim::Method;
 use table::SatBox;
-use table::Session;
 
 fn is_setup(method: Method) -> bool
     ensures { λ r. ⌜ r ≡ isSetup method ⌝ }
@@ -78,18 +76,12 @@ pub(crate) fn is_out_of_state(v: Sight) -> bool
         & (is_elsewhere(v) | (is_setup(again) & ((v.stream == 0) | !(s.playing == 0))))
 }
 
-fn owns(s: Session, id: u32) -> bool
-    ensures { λ r. ⌜ r ≡ owns id s ⌝ }
-{
-    (!(s.number == 0) & (s.stream as u32 == id)) & !(s.owner == 0)
-}
-
 // Step 14.
-pub(crate) fn is_another_s(v: Sight) -> bool
+pub(crate) fn is_anothers(v: Sight) -> bool
     ensures { λ r. ⌜ r ≡ isAnothers v ⌝ }
 {
     let s = v.session;
-    v.query & (!(v.stream == 0) & !owns(s, v.stream))
+    v.query & (!(v.stream == 0) & !table::owns(s, v.stream))
 }
 
 // Step 15.

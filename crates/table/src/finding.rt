@@ -2,9 +2,10 @@
 ghost use mathlib.Core.Path.{_≡_};
 ghost use Prim.Native.Nat.{_≤_};
 ghost use Rattle.scan.specs.Lists.{FirstOf};
-ghost use Rattle.table.specs.Table.{has, isFree, isDead, opens, streamOf};
+ghost use Rattle.table.specs.Table.{has, isFree, isDead, opens, streamOf, owns};
 ghost use Rattle.table.specs.Finding.{lowestId, isHeld, lowestFrontend, drawn};
 use crate::SatBox;
+use crate::Session;
 use crate::numbers::frontends_of;
 use crate::numbers::is_among;
 
@@ -62,6 +63,13 @@ pub fn frontend_of(t: SatBox, id: u32) -> u8
         return 0;
     }
     t.streams[k - 1].frontend
+}
+
+// Whether an open session owns the stream of an ID.
+pub fn owns(s: Session, id: u32) -> bool
+    ensures { λ r. ⌜ r ≡ owns id s ⌝ }
+{
+    (!(s.number == 0) & (s.stream as u32 == id)) & !(s.owner == 0)
 }
 
 // Whether a stream holds the frontend.

@@ -11,6 +11,7 @@ pub use finding::is_held;
 pub use finding::lowest_frontend;
 pub use finding::lowest_id;
 pub use finding::lowest_place;
+pub use finding::owns;
 pub use finding::place_of;
 pub use formed::is_well_formed;
 ghost use mathlib.Core.Path.{_≡_};
