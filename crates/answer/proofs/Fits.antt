@@ -1,5 +1,5 @@
 -- Every answer fits its buffer: "the answer buffer is shorter than 4,096" is the only refusal for its length. Assumes nothing.
-use mathlib.Core.Path.{_≡_}
+use mathlib.Core.Path.{_≡_, refl}
 use mathlib.Core.Bool.{Bool, true, false, _&&_}
 use mathlib.Core.List.{List, []}
 use Prim.Native.Nat.{ℕ, _+_, _-_, _%_, _≤_, _<_}
@@ -29,6 +29,10 @@ Is-small v = v < 4294967296
 abbrev Is-read : Read → Type 0
 Is-read (Value v) = Is-small v
 Is-read Nothing = Is-small 0
+
+pub small-read : (r : Read) → ((v : ℕ) → r ≡ Value v → v < 4294967296) → Is-read r
+small-read (Value v) h = h v refl
+small-read Nothing h = omega arith
 
 pub record Small (a : Answer) : Type 0 where
   pub status : Is-small (a .status)

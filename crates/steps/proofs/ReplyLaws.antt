@@ -1,0 +1,304 @@
+-- What a request is answered with, by the reader's places, is what its bytes say; and every such answer fits its buffer. Assumes nothing.
+use mathlib.Core.Path.{_≡_, refl, ap, subst, _∙_, sym}
+use mathlib.Core.Bool.{Bool, true, false, not, cond, _&&_}
+use mathlib.Core.List.{List, []}
+use Prim.Native.Nat.{ℕ, _≤_, _<_}
+use native.Mathlib.Omega.{arith}
+use lib.Dec.{eqb, leb, ltb}
+use lib.ListN.{length}
+use borrow.Author.Tests.{eqb-true, eqb-false, le-leb}
+use Rattle.scan.specs.Text.{text, _&_}
+use Rattle.scan.specs.Lists.{Holds}
+use Rattle.scan.specs.declared.Span.{Span}
+use Rattle.scan.proofs.Bools.{never, by-test, cond-keeps}
+use Rattle.scan.proofs.Parts.{holds-length}
+use Rattle.digits.specs.Reading.{isValue}
+use Rattle.digits.specs.declared.Zeros.the-variants.{Allowed}
+use Rattle.digits.specs.declared.Read.{Read}
+use Rattle.digits.specs.declared.Read.the-variants.{Value, Nothing}
+use Rattle.lines.specs.Lines.{isLaidOut, requestLine, headerLines}
+use Rattle.lines.specs.Headers.{valuesOf, firstValue}
+use Rattle.target.specs.Line.{isThree}
+use Rattle.target.specs.Uri.{isUri, hostOf, hasQuery, queryOf}
+use Rattle.aim.specs.Query.{nowhere, isQuery, areWithin}
+use Rattle.aim.specs.Aim.{takesNoQuery, hasStream, isGiven, edits, lacksStream, uriRefusal}
+use Rattle.aim.specs.Refusals as reading
+use Rattle.aim.specs.Refusals.{_refuses_or_}
+use Rattle.aim.specs.declared.Method.{Method}
+use Rattle.aim.specs.declared.refusals.Refusal.{Refusal}
+use Rattle.aim.specs.declared.refusals.Refusal.the-variants as refusal
+use Rattle.reader.specs.Fields.{cseqFrom}
+use Rattle.reader.specs.Request.{methodOf, uriOf, isOther, cseqOf, isTwice, isVersion, headRefusal, requestRefusal, RequestIs}
+use Rattle.reader.specs.declared.Request.{Request}
+use Rattle.table.specs.declared.Session.{Session}
+use Rattle.answer.specs.Lines.{textAt, statusLine, cseqLine}
+use Rattle.answer.specs.Answers.{linesBy, answerWith, answerText}
+use Rattle.answer.specs.declared.Kind.{Kind}
+use Rattle.answer.specs.declared.Kind.the-variants as kind
+use Rattle.answer.proofs.Fits.{small-read, answer-fits}
+use Rattle.steps.proofs.Telling.{Is-read, number-most, asked-short, head-short}
+use Rattle.steps.specs.Cases.{statusOf, isPassed, _refuses_or_ as _stops_or_}
+use Rattle.steps.specs.Steps.{lacksSession, isDead, isOutOfState, isAnothers, lacksPort, tableCase}
+use Rattle.steps.specs.Replies.{grantedKind, kindOf, reply, replyTo, wordIn, replyText}
+use Rattle.steps.specs.declared.Sight.{Sight}
+use Rattle.steps.specs.declared.cases.Case.{Case}
+use Rattle.steps.specs.declared.cases.Case.the-variants.{Passed, Reading, NoSession, NotLive, State, NotOwner, Transport, Combination, TooManyPids, Full}
+
+-- a case that what was read may have: its refusal, or where it has none any other
+abbrev pub Follows : Request → Case → Type 0
+Follows r Passed = r .refusal ≡ refusal.Passed
+Follows r (Reading q) = (q ≡ r .refusal) × (reading.isPassed q ≡ false)
+Follows r NoSession = r .refusal ≡ refusal.Passed
+Follows r NotLive = r .refusal ≡ refusal.Passed
+Follows r State = r .refusal ≡ refusal.Passed
+Follows r NotOwner = r .refusal ≡ refusal.Passed
+Follows r Transport = r .refusal ≡ refusal.Passed
+Follows r Combination = r .refusal ≡ refusal.Passed
+Follows r TooManyPids = r .refusal ≡ refusal.Passed
+Follows r Full = r .refusal ≡ refusal.Passed
+
+abbrev pub isReading : Case → Bool
+isReading Passed = false
+isReading (Reading q) = true
+isReading NoSession = false
+isReading NotLive = false
+isReading State = false
+isReading NotOwner = false
+isReading Transport = false
+isReading Combination = false
+isReading TooManyPids = false
+isReading Full = false
+
+pub follows-passed : (r : Request) (c : Case) → r .refusal ≡ refusal.Passed → isReading c ≡ false → Follows r c
+follows-passed r Passed p n = p
+follows-passed r (Reading q) p n = never refl n
+follows-passed r NoSession p n = p
+follows-passed r NotLive p n = p
+follows-passed r State p n = p
+follows-passed r NotOwner p n = p
+follows-passed r Transport p n = p
+follows-passed r Combination p n = p
+follows-passed r TooManyPids p n = p
+follows-passed r Full p n = p
+
+pub follows-refused : (r : Request) → reading.isPassed (r .refusal) ≡ false → Follows r (Reading (r .refusal))
+follows-refused r n = (refl, n)
+
+-- steps 11 to 15 are none of the reading's
+pub table-unread : (v : Sight) → isReading (tableCase v) ≡ false
+unfolding tableCase
+table-unread v = by (lacksSession v) (isDead v) (isOutOfState v) (isAnothers v) (lacksPort v)
+  where
+    by : (a b c d e : Bool)
+        → isReading (a stops NoSession or b stops NotLive or c stops State or d stops NotOwner or e stops Transport or Passed) ≡ false
+    by true b c d e = refl
+    by false true c d e = refl
+    by false false true d e = refl
+    by false false false true e = refl
+    by false false false false true = refl
+    by false false false false false = refl
+
+-- THE WORD THAT AN ANSWER REPEATS
+text-held : (s ys : List ℕ) (place : Span) → Holds s ys (place .start) (place .end) → textAt s place ≡ ys
+unfolding textAt
+text-held s ys place h = rw (le-leb (place .start) (place .end) (h .order), le-leb (place .end) (length s) (h .within)) (h .is)
+
+held-short : {s ys : List ℕ} {start end : ℕ} → length s ≤ 2048 → Holds s ys start end → length ys ≤ 2048
+held-short {s} {ys} {start} {end} n h = omega (arith, holds-length h, h .within)
+
+text-nowhere : (s : List ℕ) → textAt s nowhere ≡ []
+unfolding textAt
+text-nowhere s = cond-keeps (λ (l : List ℕ). l ≡ []) (leb 0 0 && leb 0 (length s)) [] [] (λ _. refl) (λ _. refl)
+
+-- step 5 is a Require header's
+refuses-keeps : (P : Refusal → Type 0) (b : Bool) (x y : Refusal) → P x → P y → P (b refuses x or y)
+refuses-keeps P true x y p q = p
+refuses-keeps P false x y p q = q
+
+uri-step : (frontends : ℕ) (method : Method) (u : List ℕ) → reading.stepOf (uriRefusal frontends method u) ≡ 5 → ⊥
+unfolding uriRefusal
+uri-step frontends method u =
+    keeps (ltb 1024 (length u)) refusal.UriLong _ (λ e. omega arith)
+    (keeps (not (isUri u)) refusal.UriForm _ (λ e. omega arith)
+    (keeps (hasQuery u && takesNoQuery method) refusal.QueryUntaken _ (λ e. omega arith)
+    (keeps (hasQuery u && not (isQuery (queryOf u))) refusal.QueryForm _ (λ e. omega arith)
+    (keeps (isGiven 10 u && edits u) refusal.PidsClash _ (λ e. omega arith)
+    (keeps (edits u && not (hasStream u)) refusal.PidsUnstreamed _ (λ e. omega arith)
+    (keeps (hasQuery u && not (areWithin frontends (queryOf u))) refusal.Value _ (λ e. omega arith)
+    (keeps (lacksStream method (hasStream u) (hasQuery u)) refusal.NoStream refusal.Passed (λ e. omega arith) (λ e. omega arith))))))))
+  where
+    keeps : (b : Bool) (x y : Refusal) → (reading.stepOf x ≡ 5 → ⊥) → (reading.stepOf y ≡ 5 → ⊥) → reading.stepOf (b refuses x or y) ≡ 5 → ⊥
+    keeps = refuses-keeps (λ x. reading.stepOf x ≡ 5 → ⊥)
+
+head-step : (s : List ℕ) → reading.stepOf (headRefusal s) ≡ 5 → headRefusal s ≡ refusal.Require
+unfolding headRefusal
+head-step s =
+    keeps (not (isLaidOut s)) refusal.Layout _ (λ e. absurd (omega arith))
+    (keeps (not (isValue (cseqOf s))) refusal.CSeq _ (λ e. absurd (omega arith))
+    (keeps (not (isThree (requestLine s))) refusal.RequestLine _ (λ e. absurd (omega arith))
+    (keeps (isTwice (headerLines s)) refusal.HeaderTwice _ (λ e. absurd (omega arith))
+    (keeps (not (isVersion s)) refusal.Version _ (λ e. absurd (omega arith))
+    (keeps (ltb 0 (length (valuesOf 3 (headerLines s)))) refusal.Require _ (λ e. refl)
+    (keeps (isOther (methodOf s)) refusal.Method refusal.Passed (λ e. absurd (omega arith)) (λ e. absurd (omega arith))))))))
+  where
+    keeps : (b : Bool) (x y : Refusal) → (reading.stepOf x ≡ 5 → x ≡ refusal.Require) → (reading.stepOf y ≡ 5 → y ≡ refusal.Require)
+        → reading.stepOf (b refuses x or y) ≡ 5 → (b refuses x or y) ≡ refusal.Require
+    keeps = refuses-keeps (λ x. reading.stepOf x ≡ 5 → x ≡ refusal.Require)
+
+required : (frontends : ℕ) (s : List ℕ) → reading.stepOf (requestRefusal frontends s) ≡ 5 → headRefusal s ≡ refusal.Require
+unfolding requestRefusal
+required frontends s =
+    by-test (λ t. reading.stepOf (not t refuses headRefusal s or uriRefusal frontends (methodOf s) (uriOf s)) ≡ 5 → headRefusal s ≡ refusal.Require)
+    (reading.isPassed (headRefusal s))
+    (λ _ e. absurd (uri-step frontends (methodOf s) (uriOf s) e))
+    (λ _ e. head-step s e)
+
+requires : (frontends : ℕ) (s : List ℕ) → headRefusal s ≡ refusal.Require → requestRefusal frontends s ≡ refusal.Require
+unfolding requestRefusal
+requires frontends s e = rw e
+
+-- which place the word stands at is not written
+placeless : (word : List ℕ) (c : Case) (method : Method) (cseq : Read) (session : Session) (place : Span)
+    → answerWith word (reply c method cseq session place) ≡ answerWith word (reply c method cseq session nowhere)
+placeless word c method cseq session place =
+    ap (λ l. statusLine (statusOf c) & cseqLine cseq & l & text "\r\n") (same (kindOf c method))
+  where
+    same : (k : Kind) → linesBy k word (reply c method cseq session place) ≡ linesBy k word (reply c method cseq session nowhere)
+    same kind.Bare = refl
+    same kind.Allow = refl
+    same kind.Public = refl
+    same kind.Unsupported = refl
+    same kind.Options = refl
+    same kind.Setup = refl
+    same kind.Play = refl
+    same kind.Teardown = refl
+
+module _ (frontends : ℕ) (s : List ℕ) (r : Request) (i : RequestIs frontends s r) where
+  text-none : (reading.stepOf (r .refusal) ≡ 5 → ⊥) → textAt s (r .require) ≡ []
+  text-none h = rw (i .unrequired (λ z. h (ap reading.stepOf (i .refusal ∙ requires frontends s z)))) (text-nowhere s)
+
+  text-after : r .refusal ≡ refusal.Passed → textAt s (r .require) ≡ []
+  text-after p = text-none (λ e. let n : _≡_ {A = ℕ} 0 5 = ap reading.stepOf (sym p) ∙ e in omega arith)
+
+  required-by : (q : Refusal) → q ≡ r .refusal → eqb (reading.stepOf q) 5 ≡ true → headRefusal s ≡ refusal.Require
+  required-by q p e = required frontends s (ap reading.stepOf (sym (p ∙ i .refusal)) ∙ eqb-true (reading.stepOf q) 5 e)
+
+  pub word-told : (c : Case) → Follows r c → textAt s (cond (isPassed c) (r .host) (r .require)) ≡ wordIn c s
+  word-told Passed p = text-held s (hostOf (uriOf s)) (r .host) (i .host p)
+  word-told (Reading q) p =
+      rw (p .1)
+      (by-test (λ t. textAt s (r .require) ≡ cond t (firstValue (valuesOf 3 (headerLines s))) []) (eqb (reading.stepOf q) 5)
+      (λ e. text-held s _ (r .require) (i .require (required-by q (p .0) e)))
+      (λ n. text-none (λ e. eqb-false (reading.stepOf q) 5 n (ap reading.stepOf (p .0) ∙ e))))
+  word-told NoSession p = text-after p
+  word-told NotLive p = text-after p
+  word-told State p = text-after p
+  word-told NotOwner p = text-after p
+  word-told Transport p = text-after p
+  word-told Combination p = text-after p
+  word-told TooManyPids p = text-after p
+  word-told Full p = text-after p
+
+  kind-told : (c : Case) → Follows r c → kindOf c (r .method) ≡ kindOf c (methodOf s)
+  kind-told Passed p = ap grantedKind (i .method p)
+  kind-told (Reading q) p = refl
+  kind-told NoSession p = refl
+  kind-told NotLive p = refl
+  kind-told State p = refl
+  kind-told NotOwner p = refl
+  kind-told Transport p = refl
+  kind-told Combination p = refl
+  kind-told TooManyPids p = refl
+  kind-told Full p = refl
+
+  -- THE ANSWER IS WHAT THE REQUEST'S BYTES SAY
+  pub reply-told : (c : Case) (session : Session) → Follows r c → answerText s (replyTo c r session) ≡ replyText c s session
+  unfolding replyTo replyText
+  reply-told c session p =
+      rw (word-told c p, kind-told c p, i .cseq) (placeless (wordIn c s) c (methodOf s) (cseqOf s) session (cond (isPassed c) (r .host) (r .require)))
+
+  pub reply-passed : (c : Case) (session : Session) → r .refusal ≡ refusal.Passed → isReading c ≡ false → answerText s (replyTo c r session) ≡ replyText c s session
+  reply-passed c session p n = reply-told c session (follows-passed r c p n)
+
+  pub reply-refused : (session : Session) → reading.isPassed (r .refusal) ≡ false
+      → answerText s (replyTo (Reading (r .refusal)) r session) ≡ replyText (Reading (r .refusal)) s session
+  reply-refused session n = reply-told (Reading (r .refusal)) session (follows-refused r n)
+
+  -- ITS WORD IS SHORT
+  pub word-short : (c : Case) → Follows r c → length (wordIn c s) ≤ 2048
+  word-short Passed p = held-short (asked-short frontends s (sym (i .refusal) ∙ p)) (i .host p)
+  word-short (Reading q) p =
+      cond-keeps (λ (l : List ℕ). length l ≤ 2048) (eqb (reading.stepOf q) 5) (firstValue (valuesOf 3 (headerLines s))) []
+      (λ e. let h = required-by q (p .0) e in
+      held-short (head-short s (λ z. let n : _≡_ {A = ℕ} 5 1 = ap reading.stepOf (sym h ∙ z) in omega arith)) (i .require h))
+      (λ _. omega arith)
+  word-short NoSession p = omega arith
+  word-short NotLive p = omega arith
+  word-short State p = omega arith
+  word-short NotOwner p = omega arith
+  word-short Transport p = omega arith
+  word-short Combination p = omega arith
+  word-short TooManyPids p = omega arith
+  word-short Full p = omega arith
+
+-- EVERY ANSWER FITS
+status-read : (q : Refusal) → reading.statusOf q < 1000
+status-read refusal.Passed = omega arith
+status-read refusal.Layout = omega arith
+status-read refusal.CSeq = omega arith
+status-read refusal.RequestLine = omega arith
+status-read refusal.HeaderTwice = omega arith
+status-read refusal.Version = omega arith
+status-read refusal.Require = omega arith
+status-read refusal.Method = omega arith
+status-read refusal.UriLong = omega arith
+status-read refusal.UriForm = omega arith
+status-read refusal.QueryUntaken = omega arith
+status-read refusal.QueryForm = omega arith
+status-read refusal.PidsClash = omega arith
+status-read refusal.PidsUnstreamed = omega arith
+status-read refusal.Value = omega arith
+status-read refusal.NoStream = omega arith
+
+pub status-small : (c : Case) → statusOf c < 1000
+status-small Passed = omega arith
+status-small (Reading q) = status-read q
+status-small NoSession = omega arith
+status-small NotLive = omega arith
+status-small State = omega arith
+status-small NotOwner = omega arith
+status-small Transport = omega arith
+status-small Combination = omega arith
+status-small TooManyPids = omega arith
+status-small Full = omega arith
+
+pub cseq-small : (s : List ℕ) (v : ℕ) → cseqOf s ≡ Value v → v < 4294967296
+unfolding cseqOf cseqFrom
+cseq-small s v e =
+    let h : v ≤ 4294967295 = subst (Is-read (λ n. n ≤ 4294967295)) e
+    (cond-keeps (Is-read (λ n. n ≤ 4294967295)) (isLaidOut s) _ Nothing
+    (λ _. cond-keeps (Is-read (λ n. n ≤ 4294967295)) (eqb (length (valuesOf 0 (headerLines s))) 1) _ Nothing
+    (λ _. number-most Allowed 10 4294967295 (firstValue (valuesOf 0 (headerLines s)))) (λ _. tt))
+    (λ _. tt)) in
+    omega arith
+
+-- a session's numbers of 32 bits, as the code's are
+pub record Numbers (session : Session) : Type 0 where
+  pub number : session .number < 4294967296
+  pub stream : session .stream < 4294967296
+  pub address : session .address < 4294967296
+  pub port : session .port < 4294967296
+
+pub reply-fits : (c : Case) (s : List ℕ) (session : Session) → Numbers session → length (wordIn c s) ≤ 2048 → length (replyText c s session) ≤ 4096
+unfolding replyText
+reply-fits c s session n h =
+    answer-fits (wordIn c s) (reply c (methodOf s) (cseqOf s) session nowhere)
+    (record {
+      status = omega (arith, status-small c);
+      cseq = small-read (cseqOf s) (cseq-small s);
+      session = n .number;
+      stream = n .stream;
+      address = n .address;
+      port = n .port;
+    })
+    h

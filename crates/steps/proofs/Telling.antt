@@ -1,0 +1,223 @@
+-- What the reader hands over of a request that it lets through is what the request asks; and what such a request asks is in range.
+-- Assumes nothing.
+use mathlib.Core.Path.{_≡_, refl, ap, subst, _∙_, sym}
+use mathlib.Core.Bool.{Bool, true, false, not, _&&_}
+use mathlib.Core.List.{List, [], _∷_, map}
+use Prim.Native.Nat.{ℕ, zero, suc, _+_, _%_, _≤_, _<_}
+use native.Mathlib.Decide.{ℕ-discrete}
+use native.Mathlib.Omega.{arith}
+use lib.Dec.{eqb, leb, ltb}
+use lib.ListN.{length, drop, getD}
+use lib.Seq.{ext-getD}
+use borrow.Author.Tests.{ltb-true, leb-true, eqb-true, le-ltb, lt-ltb}
+use Rattle.scan.specs.Text.{text}
+use Rattle.scan.specs.Lists.{part}
+use Rattle.scan.specs.Trim.{isEmpty}
+use Rattle.scan.proofs.Bools.{never, by-cases, by-test, cond-keeps, and-both, or-right}
+use Rattle.scan.proofs.Parts.{holds-length}
+use Rattle.digits.specs.Reading.{readNumber, atLeast, isValue, areDigits, spelled, hasLeadingZero}
+use Rattle.digits.specs.declared.Zeros.{Zeros}
+use Rattle.digits.specs.declared.Zeros.the-variants.{Allowed, Refused}
+use Rattle.digits.specs.declared.Read.{Read}
+use Rattle.digits.specs.declared.Read.the-variants.{Value, Nothing}
+use Rattle.lines.specs.Lines.{isLaidOut, requestLine, headerLines}
+use Rattle.lines.specs.Headers.{valuesOf}
+use Rattle.target.specs.Line.{isThree}
+use Rattle.target.specs.Uri.{streamIn, streamOf, restOf, slash, startsWith, hasQuery, queryOf}
+use Rattle.tuning.specs.Values.{valueOf}
+use Rattle.stream.specs.Values.{kept, isFit, areFit}
+use Rattle.stream.specs.Pids.{isIn}
+use Rattle.stream.proofs.Fitting.{all-in, fit-of, read-ranged}
+use Rattle.aim.specs.Query.{partsOf, attributeIn, valueIn, codeFrom, codeAmong, codeOf}
+use Rattle.aim.specs.Aim.{queryIn, codeIn}
+use Rattle.aim.specs.Refusals.{_refuses_or_, stepOf, isPassed}
+use Rattle.aim.specs.declared.refusals.Refusal.{Refusal}
+use Rattle.aim.specs.declared.refusals.Refusal.the-variants.{Passed, Layout, CSeq, RequestLine, HeaderTwice, Version, Require, Method as OtherMethod}
+use Rattle.reader.specs.Fields.{transportOf, portsIn, portFrom, isPair, dash}
+use Rattle.reader.specs.declared.fields.Transport.{Transport}
+use Rattle.reader.specs.declared.fields.Transport.the-variants.{Other, Port}
+use Rattle.reader.specs.Request.{methodOf, uriOf, isOther, cseqOf, isTwice, isVersion, headRefusal, requestRefusal, RequestIs}
+use Rattle.reader.specs.declared.Request.{Request}
+use Rattle.steps.specs.Asked.{streamFrom, codesIn, askedOf, listsOf, askedBy, listsBy, Told}
+
+-- THE CODES, by the attribute's place
+-- so many numbers from n on
+abbrev countFrom : ℕ → ℕ → List ℕ
+countFrom n zero = []
+countFrom n (suc many) = n ∷ countFrom (suc n) many
+
+counted : (f : ℕ → ℕ) (n many k : ℕ) → k < many → getD (map f (countFrom n many)) k 0 ≡ f (n + k)
+counted f n zero k h = absurd (omega arith)
+counted f n (suc many) zero h = ap f (omega arith)
+counted f n (suc many) (suc k) h = counted f (suc n) many k (omega arith) ∙ ap f (omega arith)
+
+pub codes-length : (frontends : ℕ) (u : List ℕ) → length (codesIn frontends u) ≡ 13
+unfolding codesIn
+codes-length frontends u = refl
+
+pub code-at : (frontends a : ℕ) (u : List ℕ) → a < 13 → getD (codesIn frontends u) a 0 ≡ codeIn frontends a u
+unfolding codesIn
+code-at frontends a u h = counted (λ k. codeIn frontends k u) 0 13 a h ∙ ap (λ k. codeIn frontends k u) (omega arith)
+
+module _ (frontends : ℕ) (s : List ℕ) (r : Request) (i : RequestIs frontends s r) (p : r .refusal ≡ Passed) where
+  codes-told : length (r .codes) ≡ 13 → r .codes ≡ codesIn frontends (uriOf s)
+  codes-told e =
+      ext-getD 0 (r .codes) (codesIn frontends (uriOf s)) (e ∙ sym (codes-length frontends (uriOf s)))
+      (λ a h. i .codes p a ∙ sym (code-at frontends a (uriOf s) (omega arith)))
+
+  query-told : ltb (r .query .start) (r .query .end) ≡ ltb 0 (length (queryIn (uriOf s)))
+  query-told =
+      let n : r .query .end ≡ r .query .start + length (queryIn (uriOf s)) = holds-length (i .query p) in
+      by-cases (ℕ-discrete (length (queryIn (uriOf s))) 0)
+      (λ z. rw (le-ltb (r .query .start) (r .query .end) (omega arith), le-ltb 0 (length (queryIn (uriOf s))) (omega arith)))
+      (λ z. rw (lt-ltb (r .query .start) (r .query .end) (omega arith), lt-ltb 0 (length (queryIn (uriOf s))) (omega arith)))
+
+  pub asked-told : length (r .codes) ≡ 13 → askedBy r ≡ askedOf frontends s
+  asked-told e = rw (i .method p, ← i .stream p, codes-told e, query-told, i .session p, i .transport p)
+
+  pub lists-told : listsBy s r ≡ listsOf s
+  lists-told = rw (i .query p .is, i .spans p 10 .is, i .spans p 11 .is, i .spans p 12 .is)
+
+  pub told : Told s r
+  told =
+      record {
+        query = record { order = i .query p .order; within = i .query p .within; is = refl };
+        list = λ a. rw (i .query p .is) (record { order = i .spans p a .order; within = i .spans p a .within; is = refl });
+      }
+
+-- WHAT IS READ OF A TEXT IS IN RANGE
+-- a number, where one was read
+abbrev pub Is-read : (ℕ → Type 0) → Read → Type 0
+Is-read P (Value v) = P v
+Is-read P Nothing = Unit {0}
+
+-- it is at most its limit
+pub number-most : (zeros : Zeros) (most limit : ℕ) (xs : List ℕ) → Is-read (λ v. v ≤ limit) (readNumber zeros most limit xs)
+unfolding readNumber
+number-most zeros most limit xs = by zeros
+  where
+    plain : Is-read (λ v. v ≤ limit) (readNumber Allowed most limit xs)
+    plain =
+        cond-keeps (Is-read (λ v. v ≤ limit)) (leb 1 (length xs) && (leb (length xs) most && (areDigits 10 xs && leb (spelled 10 xs) limit))) (Value (spelled 10 xs)) Nothing
+        (λ e. leb-true (spelled 10 xs) limit (and-both (areDigits 10 xs) _ (and-both (leb (length xs) most) _ (and-both (leb 1 (length xs)) _ e .1) .1) .1))
+        (λ _. tt)
+
+    by : (z : Zeros) → Is-read (λ v. v ≤ limit) (readNumber z most limit xs)
+    by Allowed = plain
+    by Refused = cond-keeps (Is-read (λ v. v ≤ limit)) (hasLeadingZero xs) Nothing (readNumber Allowed most limit xs) (λ _. tt) (λ _. plain)
+
+-- and at least what it must be
+pub number-between : (zeros : Zeros) (most least limit : ℕ) (xs : List ℕ) → Is-read (λ v. (least ≤ v) × (v ≤ limit)) (atLeast least (readNumber zeros most limit xs))
+number-between zeros most least limit xs = by (readNumber zeros most limit xs) (number-most zeros most limit xs)
+  where
+    by : (r : Read) → Is-read (λ v. v ≤ limit) r → Is-read (λ v. (least ≤ v) × (v ≤ limit)) (atLeast least r)
+    by (Value v) h =
+        cond-keeps (Is-read (λ w. (least ≤ w) × (w ≤ limit))) (leb least v) (Value v) Nothing (λ e. (leb-true least v e, h)) (λ _. tt)
+    by Nothing h = tt
+
+-- a code is 0 or read of a text
+pub code-keeps : (P : ℕ → Type 0) (frontends a : ℕ) (u : List ℕ) → P 0 → ((xs : List ℕ) (c : ℕ) → valueOf frontends a xs ≡ Value c → P c) → P (codeIn frontends a u)
+unfolding codeOf
+code-keeps P frontends a u z h = cond-keeps P (hasQuery u) _ 0 (λ _. among (partsOf (queryOf u))) (λ _. z)
+  where
+    one : (r : Read) → ((c : ℕ) → r ≡ Value c → P c) → P (codeFrom r)
+    one (Value c) k = k c refl
+    one Nothing k = z
+
+    among : (ps : List (List ℕ)) → P (codeAmong frontends a ps)
+    among [] = z
+    among (x ∷ ps) = cond-keeps P (eqb (attributeIn x) a) _ _ (λ _. one (valueOf frontends a (valueIn x)) (h (valueIn x))) (λ _. among ps)
+
+pub asked-fit : (frontends : ℕ) (s : List ℕ) → areFit (askedOf frontends s .codes) ≡ true
+asked-fit frontends s = fit-of (codesIn frontends (uriOf s)) fits
+  where
+    fits : (a : ℕ) → isIn a kept ≡ true → isFit a (getD (codesIn frontends (uriOf s)) a 0) ≡ true
+    fits a k =
+        rw (code-at frontends a (uriOf s) (ltb-true a 13 (all-in (λ b. ltb b 13) kept a refl k)))
+        (code-keeps (λ c. isFit a c ≡ true) frontends a (uriOf s) refl (λ xs c e. or-right (eqb c 0) (read-ranged frontends a xs c k e)))
+
+pub asked-fe : (frontends : ℕ) (s : List ℕ) → getD (askedOf frontends s .codes) 1 0 ≤ frontends
+unfolding valueOf
+asked-fe frontends s =
+    rw (code-at frontends 1 (uriOf s) (omega arith))
+    (code-keeps (λ c. c ≤ frontends) frontends 1 (uriOf s) (omega arith)
+    (λ xs c e. subst (Is-read (λ v. (1 ≤ v) × (v ≤ frontends))) e (number-between Allowed 5 1 frontends xs) .1))
+
+pub asked-stream : (u : List ℕ) → streamFrom (streamOf u) ≤ 65535
+unfolding streamIn
+asked-stream u =
+    cond-keeps (λ r. streamFrom r ≤ 65535) (isEmpty path) (Value 0) _ (λ _. omega arith)
+    (λ _. cond-keeps (λ r. streamFrom r ≤ 65535) (startsWith (text "stream=") path) _ Nothing
+    (λ _. from (atLeast 1 (readNumber Refused 5 65535 (drop 7 path))) (number-between Refused 5 1 65535 (drop 7 path)))
+    (λ _. omega arith))
+  where
+    path : List ℕ
+    path = drop (slash (restOf u) + 1) (restOf u)
+
+    from : (r : Read) → Is-read (λ v. (1 ≤ v) × (v ≤ 65535)) r → streamFrom r ≤ 65535
+    from (Value v) h = h .1
+    from Nothing h = omega arith
+
+-- the first of the two ports of a Transport that is of its form
+abbrev Is-port : ℕ → Type 0
+Is-port p = (1024 ≤ p) × (p ≤ 65534) × (p % 2 ≡ 0)
+
+abbrev Is-transport : Transport → Type 0
+Is-transport Other = Unit {0}
+Is-transport (Port p) = Is-port p
+
+ports-paired : (a b : Read) → Is-read (λ v. (1024 ≤ v) × (v ≤ 65534)) a → Is-transport (portFrom a b)
+ports-paired (Value a) (Value b) h =
+    cond-keeps Is-transport (isPair a b) (Port a) Other (λ e. (h .0, h .1, eqb-true (a % 2) 0 (and-both (eqb (a % 2) 0) _ e .0))) (λ _. tt)
+ports-paired (Value a) Nothing h = tt
+ports-paired Nothing b h = tt
+
+pub asked-port : (v : List ℕ) (port : ℕ) → transportOf v ≡ Port port → (1024 ≤ port) × (port ≤ 65534) × (port % 2 ≡ 0)
+unfolding transportOf
+asked-port v port e =
+    subst Is-transport e
+    (cond-keeps Is-transport (startsWith (text "RTP/AVP;unicast;client_port=") v) (portsIn (drop 28 v)) Other
+    (λ _. let ports = drop 28 v in
+    ports-paired (atLeast 1024 (readNumber Refused 5 65534 (part 0 (dash ports) ports))) _ (number-between Refused 5 1024 65534 (part 0 (dash ports) ports)))
+    (λ _. tt))
+
+-- A REQUEST THAT STEPS 1 TO 10 LET THROUGH
+-- a request over 2,048 bytes is refused at step 1
+pub head-short : (s : List ℕ) → (headRefusal s ≡ Layout → ⊥) → length s ≤ 2048
+unfolding headRefusal isLaidOut
+head-short s h = leb-true (length s) 2048 (and-both (leb (length s) 2048) _ (laid (isLaidOut s) _ h) .0)
+  where
+    laid : (t : Bool) (rest : Refusal) → ((not t refuses Layout or rest) ≡ Layout → ⊥) → t ≡ true
+    laid true rest k = refl
+    laid false rest k = absurd (k refl)
+
+pub request-short : (frontends : ℕ) (s : List ℕ) → (requestRefusal frontends s ≡ Layout → ⊥) → length s ≤ 2048
+unfolding requestRefusal
+request-short frontends s h = head-short s (λ e. h (rw e))
+
+pub asked-short : (frontends : ℕ) (s : List ℕ) → requestRefusal frontends s ≡ Passed → length s ≤ 2048
+asked-short frontends s p = request-short frontends s (λ e. let n : _≡_ {A = ℕ} 0 1 = ap stepOf (sym p ∙ e) in omega arith)
+
+-- and one of another method at step 6
+head-passed : (frontends : ℕ) (s : List ℕ) → requestRefusal frontends s ≡ Passed → isPassed (headRefusal s) ≡ true
+unfolding requestRefusal
+head-passed frontends s p =
+    by-test (λ t. t ≡ true) (isPassed (headRefusal s)) (λ _. refl) (λ n. sym (ap isPassed (sym p) ∙ rw n n))
+
+pub asked-method : (frontends : ℕ) (s : List ℕ) → requestRefusal frontends s ≡ Passed → isOther (methodOf s) ≡ false
+unfolding headRefusal
+asked-method frontends s p =
+    last (not (isLaidOut s)) (not (isValue (cseqOf s))) (not (isThree (requestLine s))) (isTwice (headerLines s)) (not (isVersion s))
+    (ltb 0 (length (valuesOf 3 (headerLines s)))) (isOther (methodOf s)) (head-passed frontends s p)
+  where
+    last : (a b c d e f g : Bool)
+        → isPassed (a refuses Layout or b refuses CSeq or c refuses RequestLine or d refuses HeaderTwice or e refuses Version or f refuses Require or g refuses OtherMethod or Passed) ≡ true
+        → g ≡ false
+    last false false false false false false false q = refl
+    last false false false false false false true q = never refl (sym q)
+    last false false false false false true g q = never refl (sym q)
+    last false false false false true f g q = never refl (sym q)
+    last false false false true e f g q = never refl (sym q)
+    last false false true d e f g q = never refl (sym q)
+    last false true c d e f g q = never refl (sym q)
+    last true b c d e f g q = never refl (sym q)
