@@ -10,3 +10,6 @@ pub mod RecordLaws
 pub mod Kept
 pub mod Leaving
 pub mod Recorded
+pub mod Passing
+pub mod ServingLaws
+pub mod Branching

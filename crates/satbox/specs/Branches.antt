@@ -5,6 +5,7 @@ use mathlib.Core.Bool.{true, false, cond}
 use mathlib.Core.List.{List, []}
 use lib.ListN.{getD}
 use Rattle.aim.specs.declared.Method.the-variants.{Options, Setup, Teardown}
+use Rattle.reader.specs.Request.{RequestIs}
 use Rattle.reader.specs.declared.Request.{Request}
 use Rattle.table.specs.Table.{noSession, isFree}
 use Rattle.table.specs.Formed.{wellFormed}
@@ -93,3 +94,8 @@ pub record Leaves (t : SatBox) (s : List ℕ) (r : Request) (v : Sight) : Type 0
 pub record SetsUp (t : SatBox) (s : List ℕ) (r : Request) (v : Sight) : Type 0 where
   pub through : Through t s r v
   pub setup : v .method ≡ Setup
+
+-- a request as it was read, whether or not steps 1 to 10 refuse it, on a well-formed table
+pub record Readable (t : SatBox) (s : List ℕ) (r : Request) : Type 0 where
+  pub formed : wellFormed t ≡ true
+  pub is : RequestIs (t .frontends) s r

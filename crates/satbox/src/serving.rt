@@ -4,8 +4,8 @@ ghost use Prim.Native.Nat.{_≤_};
 ghost use Rattle.stream.specs.Merging.{mergeOf};
 ghost use Rattle.steps.specs.Asked.{askedBy, listBy, listsBy, Told};
 ghost use Rattle.satbox.specs.Serving.{feedOf, replaced, refreshed, atPort, playing, after, served};
-ghost use Rattle.satbox.specs.Branches.{deniedAs, grantedAs, openedAs, Serves, SettlesAll, Servable, Opens, Joins, Retunes, Keeps, Leaves, SetsUp};
-ghost use Rattle.satbox.specs.Requests.{clientOf};
+ghost use Rattle.satbox.specs.Branches.{deniedAs, grantedAs, openedAs, Serves, SettlesAll, Servable, Opens, Joins, Retunes, Keeps, Leaves, SetsUp, Readable};
+ghost use Rattle.satbox.specs.Requests.{clientOf, answered};
 use crate::change;
 use crate::closing;
 use crate::opening;
@@ -240,14 +240,7 @@ fn set_up(t: SatBox, s: &[u8], r: Request, v: Sight, client: Client, journal: &m
 }
 
 // Serves a request that was read.
-pub(crate) fn serve(
-    t: SatBox,
-    s: &[u8],
-    r: Request,
-    address: u32,
-    draw: u32,
-    journal: &mut [u8],
-) -> Served
+fn serve(t: SatBox, s: &[u8], r: Request, address: u32, draw: u32, journal: &mut [u8]) -> Served
     requires { ⌜ Servable t (now s) r ⌝ }
     ensures { λ x. ⌜ Serves t (now (journal .entry)) (served t (askedBy r) (listsBy (now (s .entry)) r) (clientOf address draw (askedBy r))) x (now (journal .exit)) ⌝ }
 {
@@ -269,4 +262,23 @@ pub(crate) fn serve(
         Method::Teardown => leave(t, s, r, v, client, journal),
         Method::Other => grant(t, Session::NONE),
     }
+}
+
+// Serves a request, or refuses it for what was read of it.
+pub(crate) fn serve_read(
+    t: SatBox,
+    s: &[u8],
+    r: Request,
+    address: u32,
+    draw: u32,
+    journal: &mut [u8],
+) -> Served
+    requires { ⌜ Readable t (now s) r ⌝ }
+    ensures { λ x. ⌜ Serves t (now (journal .entry)) (answered (now (s .entry)) address draw t) x (now (journal .exit)) ⌝ }
+{
+    let refusal = r.refusal;
+    if !aim::is_passed(refusal) {
+        return deny(t, Case::Reading(refusal));
+    }
+    serve(t, s, r, address, draw, journal)
 }

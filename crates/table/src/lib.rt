@@ -100,6 +100,9 @@ impl SatBox {
 
     pub const TIMEOUT: u32 = 60;
 
+    // The bytes that an answer buffer has at least.
+    pub const ANSWER: usize = 4096;
+
     // A box with nothing open, its clock at 0.
     pub fn fresh(frontends: u16, size: u32) -> Made
         ensures { λ r. ⌜ r ≡ madeOf frontends size ⌝ }
