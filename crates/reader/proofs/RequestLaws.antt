@@ -169,7 +169,7 @@ request-passed {s = s} {a = a} p e q u =
     not-required z = let w : isPassed (a .refusal) ≡ false = ap isPassed (p .refusal) ∙ rw z in never (p .pass) w
 
 -- a request past steps 3 to 5: its method, and its URI's place
-passed-is : (x : Refusal) → isPassed x ≡ true → x ≡ Passed
+pub passed-is : (x : Refusal) → isPassed x ≡ true → x ≡ Passed
 passed-is Passed e = refl
 passed-is Layout e = never refl (sym e)
 passed-is CSeq e = never refl (sym e)

@@ -13,3 +13,5 @@ pub mod Recorded
 pub mod Passing
 pub mod ServingLaws
 pub mod Branching
+pub mod Ends
+pub mod Turns
