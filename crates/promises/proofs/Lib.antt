@@ -1,0 +1,6 @@
+pub mod Passing
+pub mod Serving
+pub mod Requests
+pub mod Records
+pub mod Written
+pub mod Reading

@@ -1,0 +1,199 @@
+-- Which records a request writes: those of the sweep before it, and then its own. Assumes nothing.
+use mathlib.Core.Path.{_≡_, refl, sym, _∙_, ap, subst}
+use mathlib.Core.Bool.{true, false}
+use mathlib.Core.List.{List, [], _∷_, _++_}
+use Prim.Native.Nat.{ℕ, _<_}
+use native.Mathlib.Omega.{arith}
+use lib.ListN.{length, set}
+use lib.Seq.{getD-set-same}
+use borrow.Author.Tests.{ne-eqb, eq-eqb}
+use Rattle.scan.specs.Lists.{first}
+use Rattle.scan.proofs.Bools.{never, cond-keeps}
+use Rattle.aim.specs.declared.Method.{Method}
+use Rattle.aim.specs.declared.Method.the-variants.{Options, Setup, Play, Teardown}
+use Rattle.reader.specs.Request.{methodOf}
+use Rattle.journal.specs.Records.{nextSequence}
+use Rattle.journal.specs.declared.Record.{Record}
+use Rattle.stream.specs.Streams.{pastStream, blank}
+use Rattle.stream.specs.declared.Stream.{Stream}
+use Rattle.stream.proofs.Keeping.{merge-frontend}
+use Rattle.table.specs.Table.{noSession, streamOf, isDead}
+use Rattle.table.specs.Formed.{frontendsOf}
+use Rattle.table.specs.Finding.{lowestId}
+use Rattle.table.specs.declared.Session.{Session}
+use Rattle.table.specs.declared.SatBox.{SatBox}
+use Rattle.table.proofs.Counts.{count-map, count-none, is-number}
+use Rattle.table.proofs.FreeIds.{free-id}
+use Rattle.steps.specs.Asked.{Asked, Lists, askedOf, listsOf}
+use Rattle.steps.specs.Sights.{sightOf}
+use Rattle.steps.specs.Cases.{isPassed}
+use Rattle.steps.specs.Steps.{isNamed}
+use Rattle.satbox.specs.Did.{Did, nothing, restreamed, noting, recordOf}
+use Rattle.satbox.specs.Closing.{closing, sweeping}
+use Rattle.satbox.specs.Opening.{guest, seating, joining, opening}
+use Rattle.satbox.specs.Serving.{merging, Serving, granted, grant, served}
+use Rattle.satbox.specs.Requests.{clientOf, answered, requested}
+use Rattle.satbox.specs.declared.opening.Client.{Client}
+use Rattle.satbox.proofs.Keeping.{few-frontends, Whole}
+use Rattle.satbox.proofs.Leaving.{leaving, joiner-records, owner-records}
+use Rattle.promises.proofs.Passing.{Changing, served-by, feed, can-join, can-open, new-free, new-feed, new-is}
+use Rattle.promises.proofs.Serving.{denied-still}
+use Rattle.promises.proofs.Requests.{answered-by, answered-still}
+
+-- THE SWEEP'S, AND THEN ITS OWN
+pub request-records : (s : List ℕ) (clock address draw : ℕ) (t : SatBox)
+    → requested s clock address draw t .did .records
+    ≡ sweeping clock t .records ++ answered s address draw (sweeping clock t .satbox) .did .records
+unfolding requested
+request-records s clock address draw t = refl
+
+-- NONE where it is refused
+pub refused-records : (s : List ℕ) (address draw : ℕ) (t : SatBox) → isPassed (answered s address draw t .case) ≡ false → answered s address draw t .did .records ≡ []
+refused-records s address draw t n = ap (λ (d : Did). d .records) (answered-still s address draw t n)
+
+-- the record of a session that opens, on a stream with a frontend
+abbrev pub opensAs : ℕ → Session → ℕ → SatBox → Record
+opensAs kind s frontend t =
+    record {
+      kind = kind;
+      cause = 0;
+      clock = t .clock;
+      session = s .number;
+      stream = s .stream;
+      frontend = frontend;
+      sequence = t .sequence;
+    }
+
+module _ (t : SatBox) (a : Asked) (l : Lists) (client : Client) where
+  pub denied-records : isPassed (served t a l client .case) ≡ false → served t a l client .did .records ≡ []
+  denied-records n = ap (λ (d : Did). d .records) (denied-still t a l client n)
+
+  -- what is granted, by its method
+  granted-is : (m : Method) → a .method ≡ m → isPassed (served t a l client .case) ≡ true → served t a l client ≡ grant m t a l client
+  granted-is m e =
+      subst (λ n. isPassed (served t a l client .case) ≡ true → served t a l client ≡ grant n t a l client) e
+      (served-by t a l client (λ (x : Serving). isPassed (x .case) ≡ true → x ≡ grant (a .method) t a l client) (λ p q y. refl) (λ h y. never y h))
+
+  quiet : (m : Method) → a .method ≡ m → grant m t a l client .did .records ≡ [] → served t a l client .did .records ≡ []
+  quiet m e none =
+      served-by t a l client (λ (x : Serving). x .did .records ≡ [])
+      (λ p q. subst (λ n. grant n t a l client .did .records ≡ []) (sym e) none) (λ h. refl)
+
+  -- NONE of an OPTIONS
+  pub options-records : a .method ≡ Options → served t a l client .did .records ≡ []
+  options-records e = quiet Options e (cond-keeps (λ (d : Did). d .records ≡ []) (isNamed (sightOf t a)) _ (nothing t) (λ h. refl) (λ h. refl))
+
+  -- NONE of a PLAY
+  pub play-records : a .method ≡ Play → served t a l client .did .records ≡ []
+  play-records e = quiet Play e refl
+
+  -- NONE of a SETUP in a session
+  pub retuned-records : a .method ≡ Setup → isNamed (sightOf t a) ≡ true → served t a l client .did .records ≡ []
+  retuned-records e named = quiet Setup e (rw named refl)
+
+  module _ (passed : isPassed (served t a l client .case) ≡ true) where
+    changing : Changing t a l
+    changing = served-by t a l client (λ (x : Serving). isPassed (x .case) ≡ true → Changing t a l) (λ p q y. q) (λ h y. never y h) passed
+
+    -- A SETUP without a session
+    module _ (setup : a .method ≡ Setup) (stranger : isNamed (sightOf t a) ≡ false) where
+      -- ONE OF KIND 2 where it joins a stream, with the frontend that the stream has
+      module _ (some : a .stream ≡ 0 → ⊥) where
+        pub joined-is : served t a l client ≡ granted (joining (a .stream) client t) (guest 0 (a .stream) client t)
+        joined-is = granted-is Setup setup passed ∙ rw (stranger, ne-eqb (a .stream) 0 some)
+
+        pub joined-records : served t a l client .did .records ≡ opensAs 2 (served t a l client .session) (streamOf t (a .stream) .frontend) t ∷ []
+        unfolding joining seating noting
+        joined-records = rw (joined-is, can-join t a l changing setup stranger some)
+
+      -- ONE OF KIND 1 where it opens one, with the frontend that the stream takes
+      module _ (none : a .stream ≡ 0) where
+        pub opened-is : served t a l client ≡ granted (opening (merging t a l .stream) client t) (guest 1 (lowestId (t .streams)) client t)
+        opened-is = granted-is Setup setup passed ∙ rw (stranger, eq-eqb (a .stream) 0 none)
+
+        new-frontend : merging t a l .stream .frontend ≡ feed t a
+        new-frontend =
+            rw (new-is t a l changing setup stranger none) (merge-frontend (blank (feed t a)) (a .codes) (l .pids) (l .delpids) (l .addpids))
+
+        -- there is an ID for it
+        row : Whole t → first isDead (t .streams) < length (t .streams)
+        row w =
+            let f = new-feed t a l changing setup stranger none in
+            let n = count-none (is-number (feed t a)) (frontendsOf (t .streams)) (new-free t a l changing setup stranger none) in
+            free-id (t .frontends) (t .streams) (w .formed .rows) (omega (arith, w .rows, few-frontends (t .frontends) (t .size) (w .formed .sizes)))
+            (feed t a) (f .0) (f .1) (sym (count-map (is-number (feed t a)) (λ (m : Stream). m .frontend) (t .streams)) ∙ n)
+
+        pub opened-records : Whole t → served t a l client .did .records ≡ opensAs 1 (served t a l client .session) (feed t a) t ∷ []
+        unfolding opening seating noting restreamed
+        opened-records w =
+            let m = merging t a l .stream in
+            rw (opened-is, new-frontend, can-open t a l changing setup stranger none, getD-set-same (t .streams) (first isDead (t .streams)) m pastStream (row w), new-frontend)
+
+    -- THOSE OF A CLOSING of cause 1, of a TEARDOWN
+    module _ (teardown : a .method ≡ Teardown) where
+      pub closed-is : served t a l client ≡ granted (closing 1 (sightOf t a .place) t) (sightOf t a .session)
+      closed-is = granted-is Teardown teardown passed
+
+      pub closed-records : served t a l client .did .records ≡ closing 1 (sightOf t a .place) t .records
+      closed-records = ap (λ (x : Serving). x .did .records) closed-is
+
+      -- its own alone where the session owns nothing, and else those that leave with it
+      pub left-records : sightOf t a .session .owner ≡ 0 → served t a l client .did .records ≡ recordOf 3 1 (sightOf t a .session) t ∷ []
+      unfolding sightOf
+      left-records own = closed-records ∙ joiner-records 1 (sightOf t a .place) t own
+
+      pub emptied-records : (sightOf t a .session .owner ≡ 0 → ⊥) → Whole t
+          → served t a l client .did .records
+          ≡ recordOf 3 1 (sightOf t a .session) t
+          ∷ leaving (t .clock) (t .streams) (sightOf t a .session .stream) (nextSequence (t .sequence)) (set (t .sessions) (sightOf t a .place) noSession)
+      unfolding sightOf
+      emptied-records own w = closed-records ∙ owner-records 1 (sightOf t a .place) t own (w .places)
+
+-- THE SAME OF ITS BYTES
+module _ (s : List ℕ) (address draw : ℕ) (t : SatBox) where
+  abbrev pub asks : Asked
+  asks = askedOf (t .frontends) s
+
+  abbrev pub serves : Serving
+  serves = served t asks (listsOf s) (clientOf address draw asks)
+
+  -- a request that is granted was read
+  pub answered-is : isPassed (answered s address draw t .case) ≡ true → answered s address draw t ≡ serves
+  answered-is =
+      answered-by s address draw t (λ (x : Serving). isPassed (x .case) ≡ true → x ≡ serves) (λ e y. refl) (λ e y. never y e)
+
+  silent : serves .did .records ≡ [] → answered s address draw t .did .records ≡ []
+  silent none = answered-by s address draw t (λ (x : Serving). x .did .records ≡ []) (λ e. none) (λ e. refl)
+
+  pub answered-options : methodOf s ≡ Options → answered s address draw t .did .records ≡ []
+  answered-options e = silent (options-records t asks (listsOf s) (clientOf address draw asks) e)
+
+  pub answered-play : methodOf s ≡ Play → answered s address draw t .did .records ≡ []
+  answered-play e = silent (play-records t asks (listsOf s) (clientOf address draw asks) e)
+
+  pub answered-retuned : methodOf s ≡ Setup → isNamed (sightOf t asks) ≡ true → answered s address draw t .did .records ≡ []
+  answered-retuned e named = silent (retuned-records t asks (listsOf s) (clientOf address draw asks) e named)
+
+  module _ (passed : isPassed (answered s address draw t .case) ≡ true) where
+    same : answered s address draw t ≡ serves
+    same = answered-is passed
+
+    served-passed : isPassed (serves .case) ≡ true
+    served-passed = subst (λ (x : Serving). isPassed (x .case) ≡ true) same passed
+
+    pub answered-joined : methodOf s ≡ Setup → isNamed (sightOf t asks) ≡ false → (asks .stream ≡ 0 → ⊥)
+        → answered s address draw t .did .records
+        ≡ opensAs 2 (answered s address draw t .session) (streamOf t (asks .stream) .frontend) t ∷ []
+    answered-joined setup stranger some =
+        subst (λ (x : Serving). x .did .records ≡ opensAs 2 (x .session) (streamOf t (asks .stream) .frontend) t ∷ []) (sym same)
+        (joined-records t asks (listsOf s) (clientOf address draw asks) served-passed setup stranger some)
+
+    pub answered-opened : methodOf s ≡ Setup → isNamed (sightOf t asks) ≡ false → asks .stream ≡ 0 → Whole t
+        → answered s address draw t .did .records ≡ opensAs 1 (answered s address draw t .session) (feed t asks) t ∷ []
+    answered-opened setup stranger none w =
+        subst (λ (x : Serving). x .did .records ≡ opensAs 1 (x .session) (feed t asks) t ∷ []) (sym same)
+        (opened-records t asks (listsOf s) (clientOf address draw asks) served-passed setup stranger none w)
+
+    pub answered-closed : methodOf s ≡ Teardown → answered s address draw t .did .records ≡ closing 1 (sightOf t asks .place) t .records
+    answered-closed e =
+        ap (λ (x : Serving). x .did .records) same ∙ closed-records t asks (listsOf s) (clientOf address draw asks) served-passed e

@@ -1,0 +1,214 @@
+-- A request that was read keeps a table well formed; and one that is not granted changes nothing. Assumes nothing.
+use mathlib.Core.Path.{_≡_, refl, sym, _∙_, ap, subst}
+use mathlib.Core.Bool.{Bool, true, false, _&&_}
+use mathlib.Core.List.{_∷_}
+use Prim.Native.Nat.{ℕ, _%_, _<_}
+use native.Mathlib.Omega.{arith}
+use lib.Dec.{eqb, leb}
+use lib.ListN.{length-set}
+use borrow.Author.Tests.{ne-eqb, eqb-true, le-leb}
+use Rattle.scan.specs.Classes.{isBetween}
+use Rattle.scan.proofs.Bools.{never, and-both, cond-keeps}
+use Rattle.aim.specs.declared.Method.{Method}
+use Rattle.aim.specs.declared.Method.the-variants.{Options, Setup, Play, Teardown, Other}
+use Rattle.reader.specs.declared.fields.Transport.{Transport}
+use Rattle.reader.specs.declared.fields.Transport.the-variants.{Other as Missing, Port}
+use Rattle.stream.specs.Streams.{pastStream, blank, isSound}
+use Rattle.stream.specs.Values.{areFit}
+use Rattle.stream.specs.Merging.{mergeOf}
+use Rattle.stream.specs.declared.Change.{Change}
+use Rattle.stream.proofs.Soundness.{blank-sound}
+use Rattle.stream.proofs.Keeping.{merge-sound}
+use Rattle.table.specs.Table.{noSession, isOpen, sessionAt, streamOf}
+use Rattle.table.specs.Formed.{isProper, isSeated}
+use Rattle.table.specs.declared.Session.{Session}
+use Rattle.table.specs.declared.SatBox.{SatBox}
+use Rattle.table.proofs.Counts.{count-set-same}
+use Rattle.table.proofs.Changes.{seats-alike, proper-set}
+use Rattle.steps.specs.Asked.{Asked, Lists}
+use Rattle.steps.specs.Sights.{portOf, sightOf}
+use Rattle.steps.specs.Steps.{isSetup, looksUp, isNamed}
+use Rattle.steps.specs.Cases.{isPassed}
+use Rattle.satbox.specs.Did.{Did, nothing, restreamed}
+use Rattle.satbox.specs.Serving.{merging, merges, replaced, refreshed, atPort, playing, after, Serving, keeping, retuning, seating, grant, served}
+use Rattle.satbox.specs.declared.opening.Client.{Client}
+use Rattle.satbox.proofs.Keeping.{Whole, closing-whole}
+use Rattle.satbox.proofs.Kept.{merged-whole}
+use Rattle.satbox.proofs.OpeningKeeps.{Proper, joining-whole, opening-whole}
+use Rattle.promises.proofs.Passing.{Through, Changing, served-by, through-named, through-port, through-merged, sight-open, sight-closable, sight-live, feed, new-feed, new-is, new-merged}
+
+-- a session that keeps its number, its stream and its part
+pub record Alike (s u : Session) : Type 0 where
+  pub number : s .number ≡ u .number
+  pub stream : s .stream ≡ u .stream
+  pub owner : s .owner ≡ u .owner
+
+-- A SESSION IS CHANGED in its place
+pub replaced-whole : (place : ℕ) (s : Session) (t : SatBox) → Whole t → Alike s (sessionAt t place) → isProper (t .clock) s ≡ true → Whole (replaced place s t)
+unfolding replaced
+replaced-whole place s t w k good =
+    let n = count-set-same isOpen (t .sessions) place s noSession (rw (k .number)) in
+    record {
+      formed =
+          record {
+            sizes = w .formed .sizes;
+            seats =
+                seats-alike (t .sessions) (pastStream ∷ t .streams) (w .formed .seats) place s (k .number) (k .stream) (k .owner);
+            rows = w .formed .rows;
+            proper = proper-set (t .clock) (t .sessions) (w .formed .proper) place s good;
+            fits = record { whole = w .formed .fits .whole; bound = rw n (w .formed .fits .bound) };
+          };
+      places = length-set (t .sessions) place s ∙ w .places;
+      rows = w .rows;
+    }
+
+-- step 15: "a even, 1024 to 65534"
+abbrev pub isPort : ℕ → Bool
+isPort p = isBetween 1024 65534 p && eqb (p % 2) 0
+
+-- the values of an open session
+record Seated (clock : ℕ) (s : Session) : Type 0 where
+  port : isPort (s .port) ≡ true
+  owner : leb (s .owner) 1 ≡ true
+  playing : leb (s .playing) 1 ≡ true
+  last : leb (s .last) clock ≡ true
+
+seated : (clock : ℕ) (s : Session) → (s .number ≡ 0 → ⊥) → isProper clock s ≡ true → Seated clock s
+unfolding isSeated
+seated clock s some e =
+    let a = and-both _ (leb (s .last) clock) (rw (ne-eqb (s .number) 0 some) at e) in
+    let b = and-both _ (leb (s .playing) 1) (a .0) in
+    let c = and-both _ (leb (s .owner) 1) (b .0) in
+    record { port = c .0; owner = c .1; playing = b .1; last = a .1 }
+
+proper : (clock : ℕ) (s : Session) → (s .number ≡ 0 → ⊥) → Seated clock s → isProper clock s ≡ true
+unfolding isSeated
+proper clock s some p = rw (ne-eqb (s .number) 0 some, p .port, p .owner, p .playing, p .last)
+
+module _ (place : ℕ) (t : SatBox) (w : Whole t) (some : sessionAt t place .number ≡ 0 → ⊥) where
+  values : Seated (t .clock) (sessionAt t place)
+  values = seated (t .clock) (sessionAt t place) some (w .formed .proper place)
+
+  -- its last time set to the clock
+  pub refreshed-whole : Whole (replaced place (refreshed (t .clock) (sessionAt t place)) t)
+  refreshed-whole =
+      let s = refreshed (t .clock) (sessionAt t place) in
+      replaced-whole place s t w (record { number = refl; stream = refl; owner = refl })
+      (proper (t .clock) s some
+      (record { port = values .port; owner = values .owner; playing = values .playing; last = le-leb (t .clock) (t .clock) (omega arith) }))
+
+  -- another port
+  pub ported-whole : (port : ℕ) → isPort port ≡ true → Whole (replaced place (atPort port (sessionAt t place)) t)
+  ported-whole port h =
+      let s = atPort port (sessionAt t place) in
+      replaced-whole place s t w (record { number = refl; stream = refl; owner = refl })
+      (proper (t .clock) s some (record { port = h; owner = values .owner; playing = values .playing; last = values .last }))
+
+  -- marked playing
+  pub played-whole : Whole (replaced place (playing (sessionAt t place)) t)
+  played-whole =
+      let s = playing (sessionAt t place) in
+      replaced-whole place s t w (record { number = refl; stream = refl; owner = refl })
+      (proper (t .clock) s some (record { port = values .port; owner = values .owner; playing = refl; last = values .last }))
+
+-- WHAT READING BRINGS: codes that are 0 or in range, and a port, if there is one, as step 15 has it
+pub record Fit (a : Asked) : Type 0 where
+  pub codes : areFit (a .codes) ≡ true
+  pub port : (p : ℕ) → a .transport ≡ Port p → isPort p ≡ true
+
+some-port : (x : Transport) → ((p : ℕ) → x ≡ Port p → isPort p ≡ true) → (portOf x ≡ 0 → ⊥) → isPort (portOf x) ≡ true
+some-port Missing h n = absurd (n refl)
+some-port (Port p) h n = h p refl
+
+module _ (t : SatBox) (a : Asked) (l : Lists) (w : Whole t) (fit : Fit a) (p : Through (sightOf t a)) (q : Changing t a l) where
+  set-port : isSetup (sightOf t a .method) ≡ true → isPort (sightOf t a .port) ≡ true
+  unfolding sightOf
+  set-port e = some-port (a .transport) (fit .port) (through-port (sightOf t a) p e)
+
+  -- AN OPTIONS
+  keeping-whole : Whole (keeping t (sightOf t a) .did .satbox)
+  unfolding sightOf
+  keeping-whole =
+      cond-keeps (λ (d : Did). Whole (d .satbox)) (isNamed (sightOf t a)) _ (nothing t)
+      (λ e. refreshed-whole (sightOf t a .place) t w (sight-open t a w e)) (λ e. w)
+
+  -- A SETUP OR A PLAY of an open session
+  module _ (named : isNamed (sightOf t a) ≡ true) (looks : looksUp (a .method) ≡ true) where
+    live : streamOf t (a .stream) .frontend ≡ 0 → ⊥
+    live = sight-live t a w named p looks
+
+    -- its query is merged into its stream
+    is-merging : merging t a l ≡ mergeOf (streamOf t (a .stream)) (a .codes) (l .pids) (l .delpids) (l .addpids)
+    unfolding merging
+    is-merging = rw (ne-eqb (a .stream) 0 (λ e. live (ap (λ k. streamOf t k .frontend) e)))
+
+    retuned-whole : merges (sightOf t a) ≡ true → Whole (restreamed (a .stream) (merging t a l .stream) t)
+    retuned-whole e =
+        let o = ap (λ (c : Change). c .outcome) (sym is-merging) ∙ through-merged t a l q e in
+        rw is-merging (merged-whole (a .stream) (a .codes) (l .pids) (l .delpids) (l .addpids) t w live (fit .codes) o)
+
+    -- and the session is changed in its place, where nothing else was
+    changed-whole : (u : SatBox) → Whole u → sessionAt u (sightOf t a .place) ≡ sightOf t a .session → Whole (replaced (sightOf t a .place) (after (sightOf t a)) u)
+    changed-whole u v e =
+        let place = sightOf t a .place in
+        let some : sessionAt u place .number ≡ 0 → ⊥ = λ z. sight-open t a w named (ap (λ (s : Session). s .number) (sym e) ∙ z) in
+        cond-keeps (λ (s : Session). Whole (replaced place s u)) (isSetup (sightOf t a .method)) _ _
+        (λ setup. subst (λ (s : Session). Whole (replaced place (atPort (sightOf t a .port) s) u)) e (ported-whole place u v some (sightOf t a .port) (set-port setup)))
+        (λ other. subst (λ (s : Session). Whole (replaced place (playing s) u)) e (played-whole place u v some))
+
+    retuning-whole : Whole (retuning t a l .did .satbox)
+    unfolding sightOf restreamed
+    retuning-whole =
+        cond-keeps (λ (u : SatBox). Whole (replaced (sightOf t a .place) (after (sightOf t a)) u)) (merges (sightOf t a)) _ t
+        (λ e. changed-whole (restreamed (a .stream) (merging t a l .stream) t) (retuned-whole e) refl) (λ e. changed-whole t w refl)
+
+  module _ (client : Client) (port : client .port ≡ portOf (a .transport)) (draw : client .draw < 4294967296) where
+    -- A SETUP without a session
+    module _ (setup : a .method ≡ Setup) (stranger : isNamed (sightOf t a) ≡ false) where
+      pub proper-client : Proper client
+      unfolding sightOf
+      proper-client = record { port = rw port (set-port (rw setup)); draw = draw }
+
+      pub new-sound : a .stream ≡ 0 → isSound (t .frontends) (merging t a l .stream) ≡ true
+      new-sound none =
+          let f = new-feed t a l q setup stranger none in
+          rw (new-is t a l q setup stranger none)
+          (merge-sound (blank (feed t a)) (a .codes) (l .pids) (l .delpids) (l .addpids) (t .frontends)
+          (blank-sound (t .frontends) (feed t a) (f .0) (f .1)) (λ e. omega (arith, f .0)) (fit .codes) (new-merged t a l q setup stranger none))
+
+      seating-whole : Whole (seating t a l client .did .satbox)
+      seating-whole =
+          cond-keeps (λ (x : Serving). Whole (x .did .satbox)) (eqb (a .stream) 0) _ _
+          (λ e. opening-whole (merging t a l .stream) client t proper-client w (new-sound (eqb-true (a .stream) 0 e)))
+          (λ e. joining-whole (a .stream) client t proper-client w)
+
+    grant-whole : (m : Method) → a .method ≡ m → Whole (grant m t a l client .did .satbox)
+    unfolding sightOf
+    grant-whole Options e = keeping-whole
+    grant-whole Setup e =
+        cond-keeps (λ (x : Serving). Whole (x .did .satbox)) (isNamed (sightOf t a)) (retuning t a l) (seating t a l client)
+        (λ named. retuning-whole named (rw e)) (seating-whole e)
+    grant-whole Play e = retuning-whole (through-named (sightOf t a) p (rw e)) (rw e)
+    grant-whole Teardown e = closing-whole 1 (sightOf t a .place) t (sight-closable t a w (through-named (sightOf t a) p (rw e))) w
+    grant-whole Other e = w
+
+-- A REQUEST THAT WAS READ KEEPS THE RULES
+pub served-whole : (t : SatBox) (a : Asked) (l : Lists) (client : Client) → Whole t → Fit a → client .port ≡ portOf (a .transport) → client .draw < 4294967296 → Whole (served t a l client .did .satbox)
+served-whole t a l client w fit port draw =
+    served-by t a l client (λ (x : Serving). Whole (x .did .satbox)) (λ p q. grant-whole t a l w fit p q client port draw (a .method) refl) (λ e. w)
+
+-- "A STATUS OTHER THAN 200 CHANGES NOTHING"
+module _ (t : SatBox) (a : Asked) (l : Lists) (client : Client) where
+  grant-passed : (m : Method) → isPassed (grant m t a l client .case) ≡ true
+  grant-passed Options = refl
+  grant-passed Setup =
+      cond-keeps (λ (x : Serving). isPassed (x .case) ≡ true) (isNamed (sightOf t a)) (retuning t a l) (seating t a l client) (λ e. refl)
+      (λ e. cond-keeps (λ (x : Serving). isPassed (x .case) ≡ true) (eqb (a .stream) 0) _ _ (λ z. refl) (λ z. refl))
+  grant-passed Play = refl
+  grant-passed Teardown = refl
+  grant-passed Other = refl
+
+  pub denied-still : isPassed (served t a l client .case) ≡ false → served t a l client .did ≡ nothing t
+  denied-still =
+      served-by t a l client (λ (x : Serving). isPassed (x .case) ≡ false → x .did ≡ nothing t) (λ p q n. never (grant-passed (a .method)) n)
+      (λ e n. refl)
