@@ -5,7 +5,6 @@ pub mod Keeping
 pub mod Openings
 pub mod OpeningKeeps
 pub mod CallLaws
-pub mod OrderLaws
 pub mod RecordLaws
 pub mod Kept
 pub mod Leaving
@@ -15,3 +14,4 @@ pub mod ServingLaws
 pub mod Branching
 pub mod Ends
 pub mod Turns
+pub mod RequestLaws

@@ -3,7 +3,6 @@ pub mod Does
 pub mod Closing
 pub mod Opening
 pub mod Calls
-pub mod Orders
 pub mod Serving
 pub mod Branches
 pub mod Requests

@@ -1,4 +1,4 @@
--- `satbox::order::is_played` meets its contract. Assumes nothing.
+-- `orders::is_played` meets its contract. Assumes nothing.
 use mathlib.Core.Path.{_≡_, sym, _∙_}
 use Prim.Native.Nat.{_-_}
 use native.Mathlib.Omega.{arith}
@@ -6,9 +6,9 @@ use lib.ListN.{length}
 use Rattle.table.specs.Table.{noSession}
 use Rattle.table.proofs.Places.{known}
 use Rattle.table.proofs.NumberLaws.{Lacking, lacking-start, lacking-hit, lacking-more, lacking-end}
-use Rattle.satbox.specs.Orders.{playsAsOwner}
-use Rattle.satbox.proofs.order.is_played.Statement.{statement}
-use Rattle.satbox.proofs.order.is_played.Tie as tie
+use Rattle.orders.specs.Orders.{playsAsOwner}
+use Rattle.orders.proofs.is_played.Statement.{statement}
+use Rattle.orders.proofs.is_played.Tie as tie
 
 abbrev Inv-loop : tie.InvT-loop
 Inv-loop id t i₀ i = (length (t .sessions) ≡ 32) × Lacking (playsAsOwner id) (t .sessions) i

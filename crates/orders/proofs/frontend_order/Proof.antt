@@ -1,10 +1,10 @@
--- `satbox::order::frontend_order` meets its contract. Assumes nothing.
+-- `orders::frontend_order` meets its contract. Assumes nothing.
 use borrow.Author.Needs.{needs}
 use Rattle.table.proofs.Places.{failed, held}
-use Rattle.satbox.specs.Orders.{orderOf}
-use Rattle.satbox.proofs.OrderLaws.{no-frontend, a-frontend}
-use Rattle.satbox.proofs.order.frontend_order.Statement.{statement}
-use Rattle.satbox.proofs.order.frontend_order.Tie as tie
+use Rattle.orders.specs.Orders.{orderOf}
+use Rattle.orders.proofs.OrderLaws.{no-frontend, a-frontend}
+use Rattle.orders.proofs.frontend_order.Statement.{statement}
+use Rattle.orders.proofs.frontend_order.Tie as tie
 
 returns : tie.Need-returns
 unfolding orderOf

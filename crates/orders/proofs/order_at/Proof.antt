@@ -1,10 +1,10 @@
--- `satbox::order::order_at` meets its contract. Assumes nothing.
+-- `orders::order_at` meets its contract. Assumes nothing.
 use mathlib.Core.Path.{_∙_}
 use borrow.Author.Needs.{needs}
 use Rattle.table.proofs.Places.{failed, held}
-use Rattle.satbox.proofs.OrderLaws.{order-unplayed, order-incomplete, order-complete}
-use Rattle.satbox.proofs.order.order_at.Statement.{statement}
-use Rattle.satbox.proofs.order.order_at.Tie as tie
+use Rattle.orders.proofs.OrderLaws.{order-unplayed, order-incomplete, order-complete}
+use Rattle.orders.proofs.order_at.Statement.{statement}
+use Rattle.orders.proofs.order_at.Tie as tie
 
 returns : tie.Need-returns
 returns c = c .off .ensures ∙ order-unplayed _ _ (failed (c .before .before .is-played .ensures) (c .before .if1 .taken))

@@ -1,4 +1,4 @@
--- `satbox::order::place_fed` meets its contract. Assumes nothing.
+-- `orders::place_fed` meets its contract. Assumes nothing.
 use mathlib.Core.Path.{_≡_}
 use Prim.Native.Nat.{_-_}
 use native.Mathlib.Omega.{arith}
@@ -6,9 +6,9 @@ use lib.ListN.{length}
 use Rattle.scan.proofs.Loops.{Seeking, seeking-start, seeking-hit, seeking-more, seeking-end}
 use Rattle.stream.specs.Streams.{pastStream}
 use Rattle.table.proofs.Places.{known}
-use Rattle.satbox.specs.Orders.{isFed}
-use Rattle.satbox.proofs.order.place_fed.Statement.{statement}
-use Rattle.satbox.proofs.order.place_fed.Tie as tie
+use Rattle.orders.specs.Orders.{isFed}
+use Rattle.orders.proofs.place_fed.Statement.{statement}
+use Rattle.orders.proofs.place_fed.Tie as tie
 
 abbrev Inv-loop : tie.InvT-loop
 Inv-loop n t i₀ i = (length (t .streams) ≡ 8) × Seeking (isFed n) (t .streams) i

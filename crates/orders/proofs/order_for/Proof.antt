@@ -1,12 +1,12 @@
--- `satbox::order::order_for` meets its contract. Assumes nothing.
+-- `orders::order_for` meets its contract. Assumes nothing.
 use mathlib.Core.Path.{_≡_, _∙_}
 use native.Mathlib.Omega.{arith}
 use lib.ListN.{length}
 use borrow.Author.Needs.{needs}
 use Rattle.table.proofs.Places.{known}
-use Rattle.satbox.proofs.OrderLaws.{order-none, order-held}
-use Rattle.satbox.proofs.order.order_for.Statement.{statement}
-use Rattle.satbox.proofs.order.order_for.Tie as tie
+use Rattle.orders.proofs.OrderLaws.{order-none, order-held}
+use Rattle.orders.proofs.order_for.Statement.{statement}
+use Rattle.orders.proofs.order_for.Tie as tie
 
 returns : tie.Need-returns
 returns c =

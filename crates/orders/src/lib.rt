@@ -4,7 +4,7 @@ ghost use Prim.Native.Nat.{_+_, _<_};
 ghost use lib.Dec.{eqb};
 ghost use Rattle.scan.specs.Lists.{FirstOf};
 ghost use Rattle.table.specs.Counts.{any};
-ghost use Rattle.satbox.specs.Orders.{isFed, playsAsOwner, orderAt, orderFor, orderOf};
+ghost use Rattle.orders.specs.Orders.{isFed, playsAsOwner, orderAt, orderFor, orderOf};
 use stream::Stream;
 use table::Refusal;
 use table::SatBox;
@@ -23,7 +23,7 @@ pub struct Order {
 }
 
 fn off(outcome: Ordered) -> Order
-    ensures { λ r. ⌜ r ≡ Rattle.satbox.specs.Orders.off outcome ⌝ }
+    ensures { λ r. ⌜ r ≡ Rattle.orders.specs.Orders.off outcome ⌝ }
 {
     Order {
         stream: Stream::NONE,

@@ -14,9 +14,9 @@ use Rattle.table.specs.Formed.{wellFormed}
 use Rattle.table.specs.declared.Session.{Session}
 use Rattle.table.specs.declared.SatBox.{SatBox}
 use Rattle.table.specs.declared.Refusal.the-variants.{Table, Frontend}
-use Rattle.satbox.specs.declared.order.Ordered.{Ordered}
-use Rattle.satbox.specs.declared.order.Ordered.the-variants.{On, Off, Refused}
-use Rattle.satbox.specs.declared.order.Order.{Order}
+use Rattle.orders.specs.declared.Ordered.{Ordered}
+use Rattle.orders.specs.declared.Ordered.the-variants.{On, Off, Refused}
+use Rattle.orders.specs.declared.Order.{Order}
 
 -- "the frontend is held": by the first stream that has it
 abbrev pub isFed : ℕ → Stream → Bool

@@ -14,9 +14,9 @@ use Rattle.stream.specs.Values.{areComplete}
 use Rattle.table.specs.Counts.{any}
 use Rattle.table.specs.Table.{streamOf}
 use Rattle.table.specs.declared.SatBox.{SatBox}
-use Rattle.satbox.specs.Orders.{isFed, playsAsOwner, off, orderAt, orderFor}
-use Rattle.satbox.specs.declared.order.Ordered.the-variants.{On, Off}
-use Rattle.satbox.specs.declared.order.Order.{Order}
+use Rattle.orders.specs.Orders.{isFed, playsAsOwner, off, orderAt, orderFor}
+use Rattle.orders.specs.declared.Ordered.the-variants.{On, Off}
+use Rattle.orders.specs.declared.Order.{Order}
 
 next : (i : ℕ) → i + 1 ≡ suc i
 next i = omega arith
