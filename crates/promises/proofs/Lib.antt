@@ -4,3 +4,5 @@ pub mod Requests
 pub mod Records
 pub mod Written
 pub mod Reading
+pub mod EdgeLaws
+pub mod Edges
