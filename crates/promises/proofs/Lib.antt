@@ -6,3 +6,5 @@ pub mod Written
 pub mod Reading
 pub mod EdgeLaws
 pub mod Edges
+pub mod Alike
+pub mod Unique

@@ -1,0 +1,254 @@
+-- One answer: any two results that the contract of a public function allows for the same input are equal, and so are the lent buffers after
+-- the call. Where a result says where a text stands, two may differ in the place and not in the text (`Alike`). The contract itself is cited:
+-- `ended` is the function's signature, and `Reads.Post` what its `ensures` says. Assumes nothing.
+use mathlib.Core.Path.{_≡_, refl, sym, _∙_}
+use mathlib.Core.List.{List}
+use Prim.Native.Nat.{ℕ}
+use lib.ListN.{length}
+use mir.Val.{Val}
+use contract.Lifetimes.{Lfts}
+use denote.Laws.{Is}
+use denote.Signature.{typeAt}
+use denote.Triple.Entry.{Args, Res}
+use denote.Triple.Clauses.{Ended, AtExit, Lasts, atExit}
+use Rattle.scan.proofs as scan
+use Rattle.digits.proofs as digits
+use Rattle.digits.specs.Wrote.{Wrote}
+use Rattle.digits.proofs.Writes.{wrote-one}
+use Rattle.journal.proofs as journal
+use Rattle.lines.proofs as lines
+use Rattle.tuning.proofs as tuning
+use Rattle.target.proofs as target
+use Rattle.aim.proofs as aim
+use Rattle.reader.proofs as reader
+use Rattle.stream.proofs as stream
+use Rattle.table.proofs as table
+use Rattle.table.proofs.Places.{known}
+use Rattle.answer.proofs as answer
+use Rattle.steps.proofs as steps
+use Rattle.orders.proofs as orders
+use Rattle.satbox.proofs as satbox
+use Rattle.promises.proofs.Alike.{trimmed-same, SameLines, lines-same, parts-same, SameUri, uri-same, SameAim, aim-same, SameRequest, request-same}
+
+-- what a contract allows for the arguments: a result, and the parameters at exit
+abbrev pub Contract : Ended → Type 1
+Contract T = (κs : Lfts (T .signature .lifetimes)) → Args (T .signature) κs → Res (T .signature) κs → AtExit T κs → Type 0
+
+-- two calls with the arguments a: the results x and y are equal, and so is what the lent buffers hold then, v and w
+abbrev pub Unique : (T : Ended) → Contract T → Type 0
+Unique T Allows =
+    (κs : Lfts (T .signature .lifetimes)) (a : Args (T .signature) κs) (x y : Res (T .signature) κs) (v w : Lasts T κs a)
+    → Allows κs a x (atExit T κs a v) → Allows κs a y (atExit T κs a w) → (x ≡ y) × (v ≡ w)
+
+-- the same, but the results are alike; the machine values m and n say that each is of its type, and so how long its arrays are
+abbrev pub UniqueBut : (T : Ended) → Contract T
+    → ((κs : Lfts (T .signature .lifetimes)) → Args (T .signature) κs → Res (T .signature) κs → Res (T .signature) κs → Type 0) → Type 0
+UniqueBut T Allows Alike =
+    (κs : Lfts (T .signature .lifetimes)) (a : Args (T .signature) κs) (x y : Res (T .signature) κs) (v w : Lasts T κs a) (m n : List Val)
+    → Is (typeAt (T .signature .result) κs) x m → Is (typeAt (T .signature .result) κs) y n
+    → Allows κs a x (atExit T κs a v) → Allows κs a y (atExit T κs a w) → Alike κs a x y × (v ≡ w)
+
+-- what two equations say, alone and of a function that is lent no buffer; and what two puts into the first buffer say
+pub one : {A : Type 0} {x y z : A} → x ≡ z → y ≡ z → x ≡ y
+one p q = p ∙ sym q
+
+pub same : {A B : Type 0} {x y z : A} {v : B} → x ≡ z → y ≡ z → (x ≡ y) × (v ≡ v)
+same p q = (one p q, refl)
+
+wrote : {B : Type 0} {b t d f : List ℕ} {at m n : ℕ} {u : B} → Wrote b at t d m → Wrote b at t f n → (m ≡ n) × _≡_ {A = List ℕ × B} (d, u) (f, u)
+wrote {u = u} p q = let e = wrote-one p q in (e .1, λ i. (e .0 i, u))
+
+-- SCAN
+pub scan-in-class : Unique scan.in_class.ended scan.in_class.Reads.Post
+scan-in-class κs a x y v w = same
+
+pub scan-first-in : Unique scan.first_in.ended scan.first_in.Reads.Post
+scan-first-in κs a x y v w p q = same (p .is) (q .is)
+
+pub scan-first-from : Unique scan.first_from.ended scan.first_from.Reads.Post
+scan-first-from κs a x y v w p q = same (p .is) (q .is)
+
+pub scan-all-in : Unique scan.all_in.ended scan.all_in.Reads.Post
+scan-all-in κs a x y v w = same
+
+pub scan-are-alike : Unique scan.are_alike.ended scan.are_alike.Reads.Post
+scan-are-alike κs a x y v w = same
+
+pub scan-place-among : Unique scan.place_among.ended scan.place_among.Reads.Post
+scan-place-among κs a x y v w = same
+
+pub scan-trimmed : Unique scan.trimmed.ended scan.trimmed.Reads.Post
+scan-trimmed κs a x y v w p q = (trimmed-same (a .0 .now) x y p q, refl)
+
+-- DIGITS
+pub digits-number : Unique digits.number.ended digits.number.Reads.Post
+digits-number κs a x y v w = same
+
+pub digits-hex-number : Unique digits.hex_number.ended digits.hex_number.Reads.Post
+digits-hex-number κs a x y v w = same
+
+pub digits-at-least : Unique digits.at_least.ended digits.at_least.Reads.Post
+digits-at-least κs a x y v w = same
+
+pub digits-is-value : Unique digits.is_value.ended digits.is_value.Reads.Post
+digits-is-value κs a x y v w = same
+
+pub digits-put : Unique digits.put.ended digits.put.Reads.Post
+digits-put κs a x y v w = wrote
+
+pub digits-put-decimal : Unique digits.put_decimal.ended digits.put_decimal.Reads.Post
+digits-put-decimal κs a x y v w = wrote
+
+pub digits-put-hex : Unique digits.put_hex.ended digits.put_hex.Reads.Post
+digits-put-hex κs a x y v w = wrote
+
+pub digits-put-dotted : Unique digits.put_dotted.ended digits.put_dotted.Reads.Post
+digits-put-dotted κs a x y v w = wrote
+
+-- JOURNAL
+pub journal-number : Unique journal.number.ended journal.number.Reads.Post
+journal-number κs a x y v w = same
+
+pub journal-next-sequence : Unique journal.next_sequence.ended journal.next_sequence.Reads.Post
+journal-next-sequence κs a x y v w = same
+
+pub journal-read : Unique journal.read.ended journal.read.Reads.Post
+journal-read κs a x y v w = same
+
+pub journal-write : Unique journal.write.ended journal.write.Reads.Post
+journal-write κs a x y v w = same
+
+pub journal-put : Unique journal.put.ended journal.put.Reads.Post
+journal-put κs a x y v w = wrote
+
+-- LINES: where the values stand is open
+pub lines-read-lines : UniqueBut lines.read_lines.ended lines.read_lines.Reads.Post (λ κs a. SameLines (a .0 .now))
+lines-read-lines κs a x y v w m n i j p q = (lines-same (a .0 .now) x y p q, refl)
+
+-- TUNING
+pub tuning-attribute-of : Unique tuning.attribute_of.ended tuning.attribute_of.Reads.Post
+tuning-attribute-of κs a x y v w = same
+
+pub tuning-value-of : Unique tuning.value_of.ended tuning.value_of.Reads.Post
+tuning-value-of κs a x y v w = same
+
+-- TARGET: where the host stands is open
+pub target-starts-with : Unique target.starts_with.ended target.starts_with.Reads.Post
+target-starts-with κs a x y v w = same
+
+pub target-request-line : Unique target.request_line.ended target.request_line.Reads.Post
+target-request-line κs a x y v w p q = (parts-same (a .0 .now) x y p q, refl)
+
+pub target-read-uri : UniqueBut target.read_uri.ended target.read_uri.Reads.Post (λ κs a. SameUri (a .0 .now))
+target-read-uri κs a x y v w m n i j p q = (uri-same (a .0 .now) x y p q, refl)
+
+-- AIM: where the host, the query and the values stand is open
+pub aim-step : Unique aim.step.ended aim.step.Reads.Post
+aim-step κs a x y v w = same
+
+pub aim-status : Unique aim.status.ended aim.status.Reads.Post
+aim-status κs a x y v w = same
+
+pub aim-is-passed : Unique aim.is_passed.ended aim.is_passed.Reads.Post
+aim-is-passed κs a x y v w = same
+
+pub aim-read-aim : UniqueBut aim.read_aim.ended aim.read_aim.Reads.Post (λ κs a. SameAim (a .1 .0 .now))
+aim-read-aim κs a x y v w m n i j p q =
+    let e : length (x .codes) ≡ 13 = search (known, i) in
+    let f : length (y .codes) ≡ 13 = search (known, j) in
+    (aim-same (a .1 .1 .0) (a .0) (a .1 .0 .now) x y p q (e ∙ sym f), refl)
+
+-- READER: where those and a Require value stand is open
+pub reader-read : UniqueBut reader.read.ended reader.read.Reads.Post (λ κs a. SameRequest (a .0 .now))
+reader-read κs a x y v w m n i j p q =
+    let e : length (x .codes) ≡ 13 = search (known, i) in
+    let f : length (y .codes) ≡ 13 = search (known, j) in
+    (request-same (a .1 .0) (a .0 .now) x y p q (e ∙ sym f), refl)
+
+-- STREAM
+pub stream-blank : Unique stream.Stream.blank.ended stream.Stream.blank.Reads.Post
+stream-blank κs a x y v w = same
+
+pub stream-are-complete : Unique stream.are_complete.ended stream.are_complete.Reads.Post
+stream-are-complete κs a x y v w = same
+
+pub stream-is-sound : Unique stream.is_sound.ended stream.is_sound.Reads.Post
+stream-is-sound κs a x y v w = same
+
+pub stream-merge : Unique stream.merge.ended stream.merge.Reads.Post
+stream-merge κs a x y v w = same
+
+-- TABLE
+pub table-fresh : Unique table.SatBox.fresh.ended table.SatBox.fresh.Reads.Post
+table-fresh κs a x y v w = same
+
+pub table-is-well-formed : Unique table.is_well_formed.ended table.is_well_formed.Reads.Post
+table-is-well-formed κs a x y v w = same
+
+pub table-number : Unique table.number.ended table.number.Reads.Post
+table-number κs a x y v w = same
+
+pub table-place-of : Unique table.place_of.ended table.place_of.Reads.Post
+table-place-of κs a x y v w p q = same (p .is) (q .is)
+
+pub table-lowest-place : Unique table.lowest_place.ended table.lowest_place.Reads.Post
+table-lowest-place κs a x y v w p q = same (p .is) (q .is)
+
+pub table-lowest-id : Unique table.lowest_id.ended table.lowest_id.Reads.Post
+table-lowest-id κs a x y v w = same
+
+pub table-frontend-of : Unique table.frontend_of.ended table.frontend_of.Reads.Post
+table-frontend-of κs a x y v w = same
+
+pub table-owns : Unique table.owns.ended table.owns.Reads.Post
+table-owns κs a x y v w = same
+
+pub table-is-held : Unique table.is_held.ended table.is_held.Reads.Post
+table-is-held κs a x y v w = same
+
+pub table-lowest-frontend : Unique table.lowest_frontend.ended table.lowest_frontend.Reads.Post
+table-lowest-frontend κs a x y v w = same
+
+pub table-draw : Unique table.draw.ended table.draw.Reads.Post
+table-draw κs a x y v w = same
+
+pub table-count-open : Unique table.count_open.ended table.count_open.Reads.Post
+table-count-open κs a x y v w p q = same (p .0) (q .0)
+
+-- ANSWER
+pub answer-write : Unique answer.write.ended answer.write.Reads.Post
+answer-write κs a x y v w = wrote
+
+-- STEPS
+pub steps-step : Unique steps.step.ended steps.step.Reads.Post
+steps-step κs a x y v w = same
+
+pub steps-status : Unique steps.status.ended steps.status.Reads.Post
+steps-status κs a x y v w = same
+
+pub steps-is-passed : Unique steps.is_passed.ended steps.is_passed.Reads.Post
+steps-is-passed κs a x y v w = same
+
+pub steps-sight-of : Unique steps.sight_of.ended steps.sight_of.Reads.Post
+steps-sight-of κs a x y v w = same
+
+pub steps-case-of : Unique steps.case_of.ended steps.case_of.Reads.Post
+steps-case-of κs a x y v w = same
+
+pub steps-answer-to : Unique steps.answer_to.ended steps.answer_to.Reads.Post
+steps-answer-to κs a x y v w = same
+
+-- ORDERS
+pub orders-frontend-order : Unique orders.frontend_order.ended orders.frontend_order.Reads.Post
+orders-frontend-order κs a x y v w = same
+
+-- SATBOX: a tick is lent the journal, collecting a buffer, and a request the answer's buffer and the journal
+pub satbox-tick : Unique satbox.tick.ended satbox.tick.Reads.Post
+satbox-tick κs a x y v w p q = (one (p .0) (q .0), λ i. (tt, (tt, (one (p .1) (q .1) i, tt))))
+
+pub satbox-collect : Unique satbox.collect.ended satbox.collect.Reads.Post
+satbox-collect κs a x y v w p q = (one (p .0) (q .0), λ i. (tt, (tt, (one (p .1) (q .1) i, tt))))
+
+pub satbox-request : Unique satbox.request.ended satbox.request.Reads.Post
+satbox-request κs a x y v w p q =
+    (one (p .0) (q .0), λ i. (tt, (tt, (tt, (tt, (tt, (one (p .1) (q .1) i, (one (p .2) (q .2) i, tt))))))))
