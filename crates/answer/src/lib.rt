@@ -1,20 +1,20 @@
 // An answer's text, written straight into a lent buffer, line by line: the status line, CSeq, what its kind adds, and the empty line. Every
 // byte is written once, and nothing is copied but a host and a Require value, from where they stand in the request.
-mod lines;
+mod puts;
 
 ghost use Rattle.digits.specs.Wrote.{Wrote};
 ghost use Rattle.answer.specs.Lines.{textAt};
 ghost use Rattle.answer.specs.Answers.{optionsLines, setupLines, playLines, linesOf, answerText};
 use digits::Read;
-use lines::put_allow;
-use lines::put_cseq;
-use lines::put_public;
-use lines::put_rtp_info;
-use lines::put_session;
-use lines::put_status;
-use lines::put_stream;
-use lines::put_transport;
-use lines::put_unsupported;
+use puts::put_allow;
+use puts::put_cseq;
+use puts::put_public;
+use puts::put_rtp_info;
+use puts::put_session;
+use puts::put_status;
+use puts::put_stream;
+use puts::put_transport;
+use puts::put_unsupported;
 use scan::Span;
 
 // What an answer carries after its CSeq.

@@ -1,0 +1,21 @@
+-- `answer::puts::put_status` meets its contract. Assumes nothing.
+use borrow.Author.Needs.{needs}
+use Rattle.digits.proofs.Writes.{_then_}
+use Rattle.answer.proofs.puts.put_status.Statement.{statement}
+use Rattle.answer.proofs.puts.put_status.Tie as tie
+
+returns : tie.Need-returns
+returns c =
+    let c5 = c .before .before in
+    let c4 = c5 .before .before .before .before .before in
+    let c3 = c4 .before .before .before .before in
+    let c2 = c3 .before .before .before .before .before in
+    let c1 = c2 .before .before .before .before in
+    c1 .put .ensures
+    then c2 .put-decimal .ensures
+    then c3 .put2 .ensures
+    then c4 .put-reason .ensures
+    then c5 .put3 .ensures
+
+pub put-status-spec : {M : Type 1} → statement M
+put-status-spec = tie.close (tie.spec (λ c. search needs) (λ c κs. search needs) (λ c κs. search needs) (λ c. search needs) (λ c κs. search needs) (λ c κs. search needs) (λ c. search needs) (λ c κs. search needs) (λ c. search needs) returns)

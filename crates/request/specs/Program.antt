@@ -1,0 +1,10 @@
+-- Document 01: "The request program makes a box with F = 2, C = 1,024, clock 0, address 192.168.178.39, draw 1, reads one request from
+-- standard input and writes the answer." Assumes nothing.
+use Prim.Native.Nat.{ℕ}
+use mathlib.Core.List.{List}
+use Rattle.table.specs.Made.{fresh}
+use Rattle.satbox.specs.Requests.{answerOf}
+
+-- the answer to a request's bytes
+abbrev pub answered : List ℕ → List ℕ
+answered s = answerOf s 0 0xC0A8B227 1 (fresh 2 1024)
