@@ -2,7 +2,7 @@
 use mathlib.Core.Path.{_≡_, refl}
 use mathlib.Core.Bool.{Bool, true, false, _&&_}
 use mathlib.Core.List.{List, []}
-use Prim.Native.Nat.{ℕ, _+_, _-_, _%_, _≤_, _<_}
+use Prim.Native.Nat.{ℕ, _+_, _%_, _≤_, _<_}
 use Prim.Native.String.{String}
 use native.Mathlib.Omega.{arith}
 use lib.Dec.{eqb, leb}
@@ -23,20 +23,21 @@ use Rattle.answer.specs.declared.Kind.the-variants.{Bare, Allow, Public,
 use Rattle.answer.specs.declared.Answer.{Answer}
 
 -- numbers of 32 bits, as the code's are
-abbrev Is-small : ℕ → Type 0
+abbrev pub Is-small : ℕ → Type 0
 Is-small v = v < 4294967296
 
-abbrev Is-read : Read → Type 0
-Is-read (Value v) = Is-small v
-Is-read Nothing = Is-small 0
+-- a number, where one was read
+abbrev pub Is-read : (ℕ → Type 0) → Read → Type 0
+Is-read P (Value v) = P v
+Is-read P Nothing = Unit {0}
 
-pub small-read : (r : Read) → ((v : ℕ) → r ≡ Value v → v < 4294967296) → Is-read r
-small-read (Value v) h = h v refl
-small-read Nothing h = omega arith
+pub as-read : (P : ℕ → Type 0) (r : Read) → ((v : ℕ) → r ≡ Value v → P v) → Is-read P r
+as-read P (Value v) h = h v refl
+as-read P Nothing h = tt
 
 pub record Small (a : Answer) : Type 0 where
   pub status : Is-small (a .status)
-  pub cseq : Is-read (a .cseq)
+  pub cseq : Is-read Is-small (a .cseq)
   pub session : Is-small (a .session)
   pub stream : Is-small (a .stream)
   pub address : Is-small (a .address)
@@ -74,7 +75,7 @@ status-fits : (status : ℕ) → Is-small status → length (statusLine status) 
 status-fits status h =
     rw (length-append, length-append, length-append, length-append) (omega (arith, decimal-length 9 status (omega arith), reason-fits status))
 
-cseq-fits : (cseq : Read) → Is-read cseq → length (cseqLine cseq) ≤ 18
+cseq-fits : (cseq : Read) → Is-read Is-small cseq → length (cseqLine cseq) ≤ 18
 cseq-fits (Value n) h = numbered-fits (text "CSeq: ") n h
 cseq-fits Nothing h = omega arith
 

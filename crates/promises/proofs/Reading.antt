@@ -1,4 +1,5 @@
--- What steps 1 to 10 read is as the other laws here ask for, and so those hold of any bytes. Assumes nothing.
+-- What steps 1 to 10 let through has values and a port as a table may hold them, and so the laws that ask for it hold of any bytes.
+-- Assumes nothing.
 use mathlib.Core.Path.{_≡_}
 use mathlib.Core.Bool.{true}
 use mathlib.Core.List.{List}
@@ -27,13 +28,16 @@ pub reads : Reads
 reads frontends s e =
     record { codes = asked-fit frontends s; port = port-read (firstValue (valuesOf 2 (headerLines s))) }
 
--- ANY REQUEST, at any clock, of any client: it keeps a table well formed, and writes records alone
+-- ANY REQUEST, of any bytes s, at any clock, from any address, with any 32-bit draw, on a well-formed table (`Whole`)
 module _ (s : List ℕ) (clock address draw : ℕ) (short : draw < 4294967296) (t : SatBox) (w : Whole t) where
+  -- the table stays well formed after it,
   pub request-whole : Whole (requested s clock address draw t .did .satbox)
   request-whole = requested-whole reads s address draw short clock t w
 
+  -- and after its call, with any answer buffer and any journal;
   pub reply-whole : (b j : List ℕ) → Whole (replied s clock address draw t b j .satbox)
   reply-whole b j = replied-whole reads s address draw short clock t b j w
 
+  -- and all that it writes are records
   pub request-recorded : Recorded t (requested s clock address draw t .did)
   request-recorded = requested-recorded reads s address draw short clock t w

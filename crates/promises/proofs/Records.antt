@@ -1,10 +1,10 @@
--- Which records a request writes: those of the sweep before it, and then its own. Assumes nothing.
+-- Which records a request writes, and in which order: those of the sweep before it, and then its own. "Nothing else writes here: no PLAY, no
+-- refusal." Assumes nothing.
 use mathlib.Core.Path.{_≡_, refl, sym, _∙_, ap, subst}
 use mathlib.Core.Bool.{true, false}
 use mathlib.Core.List.{List, [], _∷_, _++_}
-use Prim.Native.Nat.{ℕ, _<_}
-use native.Mathlib.Omega.{arith}
-use lib.ListN.{length, set}
+use Prim.Native.Nat.{ℕ}
+use lib.ListN.{set}
 use lib.Seq.{getD-set-same}
 use borrow.Author.Tests.{ne-eqb, eq-eqb}
 use Rattle.scan.specs.Lists.{first}
@@ -14,16 +14,11 @@ use Rattle.aim.specs.declared.Method.the-variants.{Options, Setup, Play, Teardo
 use Rattle.reader.specs.Request.{methodOf}
 use Rattle.journal.specs.Records.{nextSequence}
 use Rattle.journal.specs.declared.Record.{Record}
-use Rattle.stream.specs.Streams.{pastStream, blank}
-use Rattle.stream.specs.declared.Stream.{Stream}
-use Rattle.stream.proofs.Keeping.{merge-frontend}
+use Rattle.stream.specs.Streams.{pastStream}
 use Rattle.table.specs.Table.{noSession, streamOf, isDead}
-use Rattle.table.specs.Formed.{frontendsOf}
 use Rattle.table.specs.Finding.{lowestId}
 use Rattle.table.specs.declared.Session.{Session}
 use Rattle.table.specs.declared.SatBox.{SatBox}
-use Rattle.table.proofs.Counts.{count-map, count-none, is-number}
-use Rattle.table.proofs.FreeIds.{free-id}
 use Rattle.steps.specs.Asked.{Asked, Lists, askedOf, listsOf}
 use Rattle.steps.specs.Sights.{sightOf}
 use Rattle.steps.specs.Cases.{isPassed}
@@ -34,9 +29,11 @@ use Rattle.satbox.specs.Opening.{guest, seating, joining, opening}
 use Rattle.satbox.specs.Serving.{merging, Serving, granted, grant, served}
 use Rattle.satbox.specs.Requests.{clientOf, answered, requested}
 use Rattle.satbox.specs.declared.opening.Client.{Client}
-use Rattle.satbox.proofs.Keeping.{few-frontends, Whole}
+use Rattle.satbox.proofs.Keeping.{Whole}
+use Rattle.satbox.proofs.OpeningKeeps.{row}
+use Rattle.satbox.proofs.Branching.{merging-feed}
 use Rattle.satbox.proofs.Leaving.{leaving, joiner-records, owner-records}
-use Rattle.promises.proofs.Passing.{Changing, served-by, feed, can-join, can-open, new-free, new-feed, new-is}
+use Rattle.promises.proofs.Passing.{Changing, served-by, feed, can-join, can-open}
 use Rattle.promises.proofs.Serving.{denied-still}
 use Rattle.promises.proofs.Requests.{answered-by, answered-still}
 
@@ -47,11 +44,11 @@ pub request-records : (s : List ℕ) (clock address draw : ℕ) (t : SatBox)
 unfolding requested
 request-records s clock address draw t = refl
 
--- NONE where it is refused
+-- "NO REFUSAL": none where its status is not 200
 pub refused-records : (s : List ℕ) (address draw : ℕ) (t : SatBox) → isPassed (answered s address draw t .case) ≡ false → answered s address draw t .did .records ≡ []
 refused-records s address draw t n = ap (λ (d : Did). d .records) (answered-still s address draw t n)
 
--- the record of a session that opens, on a stream with a frontend
+-- the record of a session that opens, on a stream with that frontend: "both cause 0"
 abbrev pub opensAs : ℕ → Session → ℕ → SatBox → Record
 opensAs kind s frontend t =
     record {
@@ -83,7 +80,7 @@ module _ (t : SatBox) (a : Asked) (l : Lists) (client : Client) where
   pub options-records : a .method ≡ Options → served t a l client .did .records ≡ []
   options-records e = quiet Options e (cond-keeps (λ (d : Did). d .records ≡ []) (isNamed (sightOf t a)) _ (nothing t) (λ h. refl) (λ h. refl))
 
-  -- NONE of a PLAY
+  -- "NO PLAY"
   pub play-records : a .method ≡ Play → served t a l client .did .records ≡ []
   play-records e = quiet Play e refl
 
@@ -97,7 +94,7 @@ module _ (t : SatBox) (a : Asked) (l : Lists) (client : Client) where
 
     -- A SETUP without a session
     module _ (setup : a .method ≡ Setup) (stranger : isNamed (sightOf t a) ≡ false) where
-      -- ONE OF KIND 2 where it joins a stream, with the frontend that the stream has
+      -- ONE OF KIND 2, "joined", where it names a stream: with the frontend that the stream has
       module _ (some : a .stream ≡ 0 → ⊥) where
         pub joined-is : served t a l client ≡ granted (joining (a .stream) client t) (guest 0 (a .stream) client t)
         joined-is = granted-is Setup setup passed ∙ rw (stranger, ne-eqb (a .stream) 0 some)
@@ -106,30 +103,20 @@ module _ (t : SatBox) (a : Asked) (l : Lists) (client : Client) where
         unfolding joining seating noting
         joined-records = rw (joined-is, can-join t a l changing setup stranger some)
 
-      -- ONE OF KIND 1 where it opens one, with the frontend that the stream takes
+      -- ONE OF KIND 1, "opened as owner", where it names none: with the frontend that the new stream takes
       module _ (none : a .stream ≡ 0) where
         pub opened-is : served t a l client ≡ granted (opening (merging t a l .stream) client t) (guest 1 (lowestId (t .streams)) client t)
         opened-is = granted-is Setup setup passed ∙ rw (stranger, eq-eqb (a .stream) 0 none)
 
-        new-frontend : merging t a l .stream .frontend ≡ feed t a
-        new-frontend =
-            rw (new-is t a l changing setup stranger none) (merge-frontend (blank (feed t a)) (a .codes) (l .pids) (l .delpids) (l .addpids))
-
-        -- there is an ID for it
-        row : Whole t → first isDead (t .streams) < length (t .streams)
-        row w =
-            let f = new-feed t a l changing setup stranger none in
-            let n = count-none (is-number (feed t a)) (frontendsOf (t .streams)) (new-free t a l changing setup stranger none) in
-            free-id (t .frontends) (t .streams) (w .formed .rows) (omega (arith, w .rows, few-frontends (t .frontends) (t .size) (w .formed .sizes)))
-            (feed t a) (f .0) (f .1) (sym (count-map (is-number (feed t a)) (λ (m : Stream). m .frontend) (t .streams)) ∙ n)
-
         pub opened-records : Whole t → served t a l client .did .records ≡ opensAs 1 (served t a l client .session) (feed t a) t ∷ []
-        unfolding opening seating noting restreamed
+        unfolding opening seating noting restreamed sightOf
         opened-records w =
             let m = merging t a l .stream in
-            rw (opened-is, new-frontend, can-open t a l changing setup stranger none, getD-set-same (t .streams) (first isDead (t .streams)) m pastStream (row w), new-frontend)
+            let f : m .frontend ≡ feed t a = merging-feed t a l client (sightOf t a) refl none in
+            let y = can-open t a l changing setup stranger none in
+            rw (opened-is, f, y, getD-set-same (t .streams) (first isDead (t .streams)) m pastStream (row (feed t a) t y w), f)
 
-    -- THOSE OF A CLOSING of cause 1, of a TEARDOWN
+    -- THOSE OF A CLOSING, "cause 1 teardown", where it is a TEARDOWN
     module _ (teardown : a .method ≡ Teardown) where
       pub closed-is : served t a l client ≡ granted (closing 1 (sightOf t a .place) t) (sightOf t a .session)
       closed-is = granted-is Teardown teardown passed
@@ -137,7 +124,8 @@ module _ (t : SatBox) (a : Asked) (l : Lists) (client : Client) where
       pub closed-records : served t a l client .did .records ≡ closing 1 (sightOf t a .place) t .records
       closed-records = ap (λ (x : Serving). x .did .records) closed-is
 
-      -- its own alone where the session owns nothing, and else those that leave with it
+      -- one where the session owns nothing; where it owns its stream, "each session still open on that stream .. closes directly after with
+      -- cause 3, in place order"
       pub left-records : sightOf t a .session .owner ≡ 0 → served t a l client .did .records ≡ recordOf 3 1 (sightOf t a .session) t ∷ []
       unfolding sightOf
       left-records own = closed-records ∙ joiner-records 1 (sightOf t a .place) t own
@@ -149,7 +137,7 @@ module _ (t : SatBox) (a : Asked) (l : Lists) (client : Client) where
       unfolding sightOf
       emptied-records own w = closed-records ∙ owner-records 1 (sightOf t a .place) t own (w .places)
 
--- THE SAME OF ITS BYTES
+-- THE SAME OF ITS BYTES s, on a table that was swept
 module _ (s : List ℕ) (address draw : ℕ) (t : SatBox) where
   abbrev pub asks : Asked
   asks = askedOf (t .frontends) s

@@ -1,4 +1,4 @@
--- A request that was read keeps a table well formed; and one that is not granted changes nothing. Assumes nothing.
+-- A request that steps 1 to 10 let through keeps a table well formed; and one that steps 11 to 18 refuse changes nothing. Assumes nothing.
 use mathlib.Core.Path.{_≡_, refl, sym, _∙_, ap, subst}
 use mathlib.Core.Bool.{Bool, true, false, _&&_}
 use mathlib.Core.List.{_∷_}
@@ -34,16 +34,19 @@ use Rattle.satbox.specs.Serving.{merging, merges, replaced, refreshed, atPort, 
 use Rattle.satbox.specs.declared.opening.Client.{Client}
 use Rattle.satbox.proofs.Keeping.{Whole, closing-whole}
 use Rattle.satbox.proofs.Kept.{merged-whole}
-use Rattle.satbox.proofs.OpeningKeeps.{Proper, joining-whole, opening-whole}
-use Rattle.promises.proofs.Passing.{Through, Changing, served-by, through-named, through-port, through-merged, sight-open, sight-closable, sight-live, feed, new-feed, new-is, new-merged}
+use Rattle.satbox.proofs.OpeningKeeps.{Proper, joining-whole, feed-range, opening-whole}
+use Rattle.satbox.proofs.Passing.{Untested, named-needed, named-closable, own-live}
+use Rattle.satbox.proofs.Branching.{merging-new, merging-live}
+use Rattle.satbox.proofs.RequestLaws.{grant-passes}
+use Rattle.promises.proofs.Passing.{Changing, served-by, tears-closable, through-port, feed, through-merged, can-open, new-merged}
 
--- a session that keeps its number, its stream and its part
+-- a session that keeps its number, its stream, and whether it owns it
 pub record Alike (s u : Session) : Type 0 where
   pub number : s .number ≡ u .number
   pub stream : s .stream ≡ u .stream
   pub owner : s .owner ≡ u .owner
 
--- A SESSION IS CHANGED in its place
+-- A SESSION IS CHANGED in its place: the table stays well formed (`Whole`)
 pub replaced-whole : (place : ℕ) (s : Session) (t : SatBox) → Whole t → Alike s (sessionAt t place) → isProper (t .clock) s ≡ true → Whole (replaced place s t)
 unfolding replaced
 replaced-whole place s t w k good =
@@ -66,7 +69,7 @@ replaced-whole place s t w k good =
 abbrev pub isPort : ℕ → Bool
 isPort p = isBetween 1024 65534 p && eqb (p % 2) 0
 
--- the values of an open session
+-- what "well formed" asks of an open session's own values
 record Seated (clock : ℕ) (s : Session) : Type 0 where
   port : isPort (s .port) ≡ true
   owner : leb (s .owner) 1 ≡ true
@@ -89,7 +92,7 @@ module _ (place : ℕ) (t : SatBox) (w : Whole t) (some : sessionAt t place .num
   values : Seated (t .clock) (sessionAt t place)
   values = seated (t .clock) (sessionAt t place) some (w .formed .proper place)
 
-  -- its last time set to the clock
+  -- an OPTIONS sets "the last time to the clock"
   pub refreshed-whole : Whole (replaced place (refreshed (t .clock) (sessionAt t place)) t)
   refreshed-whole =
       let s = refreshed (t .clock) (sessionAt t place) in
@@ -97,21 +100,21 @@ module _ (place : ℕ) (t : SatBox) (w : Whole t) (some : sessionAt t place .num
       (proper (t .clock) s some
       (record { port = values .port; owner = values .owner; playing = values .playing; last = le-leb (t .clock) (t .clock) (omega arith) }))
 
-  -- another port
+  -- "SETUP in a session replaces only the port"
   pub ported-whole : (port : ℕ) → isPort port ≡ true → Whole (replaced place (atPort port (sessionAt t place)) t)
   ported-whole port h =
       let s = atPort port (sessionAt t place) in
       replaced-whole place s t w (record { number = refl; stream = refl; owner = refl })
       (proper (t .clock) s some (record { port = h; owner = values .owner; playing = values .playing; last = values .last }))
 
-  -- marked playing
+  -- PLAY "marks the session playing"
   pub played-whole : Whole (replaced place (playing (sessionAt t place)) t)
   played-whole =
       let s = playing (sessionAt t place) in
       replaced-whole place s t w (record { number = refl; stream = refl; owner = refl })
       (proper (t .clock) s some (record { port = values .port; owner = values .owner; playing = refl; last = values .last }))
 
--- WHAT READING BRINGS: codes that are 0 or in range, and a port, if there is one, as step 15 has it
+-- WHAT STEPS 1 TO 10 LET THROUGH: every value is in the table of attributes, or 0 where it is not given; a port, if there is one, is step 15's
 pub record Fit (a : Asked) : Type 0 where
   pub codes : areFit (a .codes) ≡ true
   pub port : (p : ℕ) → a .transport ≡ Port p → isPort p ≡ true
@@ -120,27 +123,33 @@ some-port : (x : Transport) → ((p : ℕ) → x ≡ Port p → isPort p ≡ tru
 some-port Missing h n = absurd (n refl)
 some-port (Port p) h n = h p refl
 
-module _ (t : SatBox) (a : Asked) (l : Lists) (w : Whole t) (fit : Fit a) (p : Through (sightOf t a)) (q : Changing t a l) where
+module _ (t : SatBox) (a : Asked) (l : Lists) (client : Client) (w : Whole t) (fit : Fit a) (p : Untested (sightOf t a)) (q : Changing t a l) where
   set-port : isSetup (sightOf t a .method) ≡ true → isPort (sightOf t a .port) ≡ true
   unfolding sightOf
   set-port e = some-port (a .transport) (fit .port) (through-port (sightOf t a) p e)
+
+  -- a session that is named is open
+  open-named : isNamed (sightOf t a) ≡ true → sightOf t a .session .number ≡ 0 → ⊥
+  unfolding sightOf
+  open-named named = named-closable t w a (sightOf t a) refl named .some
 
   -- AN OPTIONS
   keeping-whole : Whole (keeping t (sightOf t a) .did .satbox)
   unfolding sightOf
   keeping-whole =
       cond-keeps (λ (d : Did). Whole (d .satbox)) (isNamed (sightOf t a)) _ (nothing t)
-      (λ e. refreshed-whole (sightOf t a .place) t w (sight-open t a w e)) (λ e. w)
+      (λ e. refreshed-whole (sightOf t a .place) t w (open-named e)) (λ e. w)
 
   -- A SETUP OR A PLAY of an open session
   module _ (named : isNamed (sightOf t a) ≡ true) (looks : looksUp (a .method) ≡ true) where
     live : streamOf t (a .stream) .frontend ≡ 0 → ⊥
-    live = sight-live t a w named p looks
+    unfolding sightOf
+    live = own-live t w a (sightOf t a) refl named p looks
 
     -- its query is merged into its stream
     is-merging : merging t a l ≡ mergeOf (streamOf t (a .stream)) (a .codes) (l .pids) (l .delpids) (l .addpids)
-    unfolding merging
-    is-merging = rw (ne-eqb (a .stream) 0 (λ e. live (ap (λ k. streamOf t k .frontend) e)))
+    unfolding sightOf
+    is-merging = merging-live t a l client (sightOf t a) refl (λ e. live (ap (λ k. streamOf t k .frontend) e))
 
     retuned-whole : merges (sightOf t a) ≡ true → Whole (restreamed (a .stream) (merging t a l .stream) t)
     retuned-whole e =
@@ -151,10 +160,10 @@ module _ (t : SatBox) (a : Asked) (l : Lists) (w : Whole t) (fit : Fit a) (p : T
     changed-whole : (u : SatBox) → Whole u → sessionAt u (sightOf t a .place) ≡ sightOf t a .session → Whole (replaced (sightOf t a .place) (after (sightOf t a)) u)
     changed-whole u v e =
         let place = sightOf t a .place in
-        let some : sessionAt u place .number ≡ 0 → ⊥ = λ z. sight-open t a w named (ap (λ (s : Session). s .number) (sym e) ∙ z) in
+        let there : sessionAt u place .number ≡ 0 → ⊥ = λ z. open-named named (ap (λ (s : Session). s .number) (sym e) ∙ z) in
         cond-keeps (λ (s : Session). Whole (replaced place s u)) (isSetup (sightOf t a .method)) _ _
-        (λ setup. subst (λ (s : Session). Whole (replaced place (atPort (sightOf t a .port) s) u)) e (ported-whole place u v some (sightOf t a .port) (set-port setup)))
-        (λ other. subst (λ (s : Session). Whole (replaced place (playing s) u)) e (played-whole place u v some))
+        (λ setup. subst (λ (s : Session). Whole (replaced place (atPort (sightOf t a .port) s) u)) e (ported-whole place u v there (sightOf t a .port) (set-port setup)))
+        (λ other. subst (λ (s : Session). Whole (replaced place (playing s) u)) e (played-whole place u v there))
 
     retuning-whole : Whole (retuning t a l .did .satbox)
     unfolding sightOf restreamed
@@ -162,7 +171,7 @@ module _ (t : SatBox) (a : Asked) (l : Lists) (w : Whole t) (fit : Fit a) (p : T
         cond-keeps (λ (u : SatBox). Whole (replaced (sightOf t a .place) (after (sightOf t a)) u)) (merges (sightOf t a)) _ t
         (λ e. changed-whole (restreamed (a .stream) (merging t a l .stream) t) (retuned-whole e) refl) (λ e. changed-whole t w refl)
 
-  module _ (client : Client) (port : client .port ≡ portOf (a .transport)) (draw : client .draw < 4294967296) where
+  module _ (port : client .port ≡ portOf (a .transport)) (draw : client .draw < 4294967296) where
     -- A SETUP without a session
     module _ (setup : a .method ≡ Setup) (stranger : isNamed (sightOf t a) ≡ false) where
       pub proper-client : Proper client
@@ -170,11 +179,13 @@ module _ (t : SatBox) (a : Asked) (l : Lists) (w : Whole t) (fit : Fit a) (p : T
       proper-client = record { port = rw port (set-port (rw setup)); draw = draw }
 
       pub new-sound : a .stream ≡ 0 → isSound (t .frontends) (merging t a l .stream) ≡ true
+      unfolding sightOf
       new-sound none =
-          let f = new-feed t a l q setup stranger none in
-          rw (new-is t a l q setup stranger none)
-          (merge-sound (blank (feed t a)) (a .codes) (l .pids) (l .delpids) (l .addpids) (t .frontends)
-          (blank-sound (t .frontends) (feed t a) (f .0) (f .1)) (λ e. omega (arith, f .0)) (fit .codes) (new-merged t a l q setup stranger none))
+          let f = feed-range (feed t a) t (can-open t a l q setup stranger none) in
+          let e = merging-new t a l client (sightOf t a) refl none in
+          rw e
+          (merge-sound (blank (feed t a)) (a .codes) (l .pids) (l .delpids) (l .addpids) (t .frontends) (blank-sound (t .frontends) (feed t a) (f .0) (f .1))
+          (λ z. omega (arith, f .0)) (fit .codes) (ap (λ (c : Change). c .outcome) (sym e) ∙ new-merged t a l q setup stranger none))
 
       seating-whole : Whole (seating t a l client .did .satbox)
       seating-whole =
@@ -188,27 +199,17 @@ module _ (t : SatBox) (a : Asked) (l : Lists) (w : Whole t) (fit : Fit a) (p : T
     grant-whole Setup e =
         cond-keeps (λ (x : Serving). Whole (x .did .satbox)) (isNamed (sightOf t a)) (retuning t a l) (seating t a l client)
         (λ named. retuning-whole named (rw e)) (seating-whole e)
-    grant-whole Play e = retuning-whole (through-named (sightOf t a) p (rw e)) (rw e)
-    grant-whole Teardown e = closing-whole 1 (sightOf t a .place) t (sight-closable t a w (through-named (sightOf t a) p (rw e))) w
+    grant-whole Play e = retuning-whole (named-needed (sightOf t a) p (rw e)) (rw e)
+    grant-whole Teardown e = closing-whole 1 (sightOf t a .place) t (tears-closable t a w p e) w
     grant-whole Other e = w
 
--- A REQUEST THAT WAS READ KEEPS THE RULES
+-- A REQUEST THAT STEPS 1 TO 10 LET THROUGH keeps the table well formed
 pub served-whole : (t : SatBox) (a : Asked) (l : Lists) (client : Client) → Whole t → Fit a → client .port ≡ portOf (a .transport) → client .draw < 4294967296 → Whole (served t a l client .did .satbox)
 served-whole t a l client w fit port draw =
-    served-by t a l client (λ (x : Serving). Whole (x .did .satbox)) (λ p q. grant-whole t a l w fit p q client port draw (a .method) refl) (λ e. w)
+    served-by t a l client (λ (x : Serving). Whole (x .did .satbox)) (λ p q. grant-whole t a l client w fit p q port draw (a .method) refl) (λ e. w)
 
--- "A STATUS OTHER THAN 200 CHANGES NOTHING"
-module _ (t : SatBox) (a : Asked) (l : Lists) (client : Client) where
-  grant-passed : (m : Method) → isPassed (grant m t a l client .case) ≡ true
-  grant-passed Options = refl
-  grant-passed Setup =
-      cond-keeps (λ (x : Serving). isPassed (x .case) ≡ true) (isNamed (sightOf t a)) (retuning t a l) (seating t a l client) (λ e. refl)
-      (λ e. cond-keeps (λ (x : Serving). isPassed (x .case) ≡ true) (eqb (a .stream) 0) _ _ (λ z. refl) (λ z. refl))
-  grant-passed Play = refl
-  grant-passed Teardown = refl
-  grant-passed Other = refl
-
-  pub denied-still : isPassed (served t a l client .case) ≡ false → served t a l client .did ≡ nothing t
-  denied-still =
-      served-by t a l client (λ (x : Serving). isPassed (x .case) ≡ false → x .did ≡ nothing t) (λ p q n. never (grant-passed (a .method)) n)
-      (λ e n. refl)
+-- "A STATUS OTHER THAN 200 CHANGES NOTHING": refused by one of steps 11 to 18, it leaves the table and writes no record
+pub denied-still : (t : SatBox) (a : Asked) (l : Lists) (client : Client) → isPassed (served t a l client .case) ≡ false → served t a l client .did ≡ nothing t
+denied-still t a l client =
+    served-by t a l client (λ (x : Serving). isPassed (x .case) ≡ false → x .did ≡ nothing t)
+    (λ p q n. never (ap isPassed (grant-passes (a .method) t a l client)) n) (λ e n. refl)

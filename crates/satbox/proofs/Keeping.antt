@@ -31,8 +31,9 @@ pub record Whole (t : SatBox) : Type 0 where
   pub rows : length (t .streams) ≡ 8
 
 -- F is at most 8, and C at most 65,536
-pub few-frontends : (frontends size : ℕ) → areSizes frontends size ≡ true → frontends ≤ 8
-few-frontends frontends size e = leb-true _ _ (and-both (leb 1 frontends) _ (and-both (isBetween 1 8 frontends) _ e .0) .1)
+pub frontends-few : (t : SatBox) → Whole t → t .frontends ≤ 8
+frontends-few t w =
+    leb-true _ _ (and-both (leb 1 (t .frontends)) _ (and-both (isBetween 1 8 (t .frontends)) _ (w .formed .sizes) .0) .1)
 
 size-small : (frontends size : ℕ) → areSizes frontends size ≡ true → size ≤ 65536
 size-small frontends size e =

@@ -35,7 +35,7 @@ pub fresh-whole : (frontends size : ℕ) → areSizes frontends size ≡ true �
 fresh-whole frontends size e = record { formed = formed (fresh frontends size) (fresh-formed frontends size e); places = refl; rows = refl }
 
 -- a call that was refused leaves its table alone
-done-keeps : (o : Outcome) (t u : SatBox) → Whole t → Whole u → Whole (ifDone o u t)
+pub done-keeps : (o : Outcome) (t u : SatBox) → Whole t → Whole u → Whole (ifDone o u t)
 done-keeps Done t u w v = v
 done-keeps (Refused r) t u w v = w
 

@@ -1,6 +1,6 @@
 -- A request by the ways it ends: each refusal of the call, and done; and that its answer is the meaning's and fits. Assumes nothing.
-use mathlib.Core.Path.{_≡_, refl, _∙_, ap, subst}
-use mathlib.Core.Bool.{Bool, true, false, not, cond, _&&_}
+use mathlib.Core.Path.{_≡_, refl, sym, _∙_, ap, subst}
+use mathlib.Core.Bool.{true, false, not, _&&_}
 use mathlib.Core.List.{List, _++_}
 use Prim.Native.Nat.{ℕ, _≤_, _<_}
 use native.Mathlib.Omega.{arith}
@@ -24,12 +24,12 @@ use Rattle.table.specs.declared.SatBox.{SatBox}
 use Rattle.table.specs.declared.Refusal.the-variants as refusal
 use Rattle.table.specs.declared.Outcome.the-variants.{Done}
 use Rattle.steps.specs.Asked.{Asked, Lists, askedOf, listsOf}
-use Rattle.steps.specs.Cases.{isPassed, _refuses_or_}
+use Rattle.steps.specs.Cases.{isPassed}
 use Rattle.steps.specs.Sights.{sightOf}
 use Rattle.steps.specs.Steps.{isNamed, tableCase}
 use Rattle.steps.specs.Replies.{replyTo, replyText}
 use Rattle.steps.specs.declared.cases.Case.the-variants.{Passed, Reading, Combination, TooManyPids, Full}
-use Rattle.steps.proofs.ReplyLaws.{Follows, isReading, follows-passed, follows-refused, table-unread, reply-told, word-short, Numbers, reply-fits}
+use Rattle.steps.proofs.ReplyLaws.{Follows, follows-passed, follows-refused, isReading, unread-chain, table-unread, reply-told, word-short, Numbers, reply-fits}
 use Rattle.satbox.specs.Does.{Does}
 use Rattle.satbox.specs.Closing.{swept, sweeping, atClock}
 use Rattle.satbox.specs.Serving.{Serving, merging, merges, isClash, isTooMany, opens, canSeat, changeCase, caseOf, denied, grant, served}
@@ -40,39 +40,30 @@ use Rattle.satbox.specs.declared.serving.Served.{Served}
 use Rattle.satbox.specs.declared.Replied.{Replied}
 use Rattle.satbox.proofs.DoesLaws.{does-then}
 use Rattle.satbox.proofs.Closings.{swept-fine}
-use Rattle.satbox.proofs.Keeping.{Whole, whole-roomy, clock-whole, few-frontends}
+use Rattle.satbox.proofs.Keeping.{Whole, whole-roomy, clock-whole}
 use Rattle.satbox.proofs.Kept.{whole-formed, sweeping-whole}
 
 -- STEPS 11 TO 18 are none of the reading's
 change-unread : (t : SatBox) (a : Asked) (l : Lists) → isReading (changeCase t a l) ≡ false
 unfolding changeCase
 change-unread t a l =
-    by (merges (sightOf t a) && isClash (merging t a l .outcome)) (merges (sightOf t a) && isTooMany (merging t a l .outcome))
-    (opens (sightOf t a) && not (canSeat t (sightOf t a)))
-  where
-    by : (p q r : Bool) → isReading (p refuses Combination or q refuses TooManyPids or r refuses Full or Passed) ≡ false
-    by true q r = refl
-    by false true r = refl
-    by false false true = refl
-    by false false false = refl
+    unread-chain (merges (sightOf t a) && isClash (merging t a l .outcome)) Combination _ refl
+    (unread-chain (merges (sightOf t a) && isTooMany (merging t a l .outcome)) TooManyPids _ refl
+    (unread-chain (opens (sightOf t a) && not (canSeat t (sightOf t a))) Full Passed refl refl))
 
-case-unread : (t : SatBox) (a : Asked) (l : Lists) → isReading (caseOf t a l) ≡ false
+pub case-unread : (t : SatBox) (a : Asked) (l : Lists) → isReading (caseOf t a l) ≡ false
 unfolding caseOf
-case-unread t a l = by (not (isPassed (tableCase (sightOf t a))))
-  where
-    by : (p : Bool) → isReading (p refuses tableCase (sightOf t a) or changeCase t a l) ≡ false
-    by true = table-unread (sightOf t a)
-    by false = change-unread t a l
+case-unread t a l =
+    let c = tableCase (sightOf t a) in unread-chain (not (isPassed c)) c (changeCase t a l) (table-unread (sightOf t a)) (change-unread t a l)
 
 -- what is granted passes
-chosen : (p q : Bool) (x y z : Serving) → x .case ≡ Passed → y .case ≡ Passed → z .case ≡ Passed → cond p x (cond q y z) .case ≡ Passed
-chosen true q x y z a b c = a
-chosen false true x y z a b c = b
-chosen false false x y z a b c = c
-
-grant-passes : (m : Method) (t : SatBox) (a : Asked) (l : Lists) (client : Client) → grant m t a l client .case ≡ Passed
+pub grant-passes : (m : Method) (t : SatBox) (a : Asked) (l : Lists) (client : Client) → grant m t a l client .case ≡ Passed
 grant-passes Options t a l client = refl
-grant-passes Setup t a l client = chosen (isNamed (sightOf t a)) (eqb (a .stream) 0) _ _ _ refl refl refl
+grant-passes Setup t a l client =
+    cond-keeps Passes (isNamed (sightOf t a)) _ _ (λ _. refl) (λ _. cond-keeps Passes (eqb (a .stream) 0) _ _ (λ _. refl) (λ _. refl))
+  where
+    Passes : Serving → Type 0
+    Passes x = x .case ≡ Passed
 grant-passes Play t a l client = refl
 grant-passes Teardown t a l client = refl
 grant-passes Other t a l client = refl
@@ -82,10 +73,6 @@ unfolding served
 served-unread t a l client =
     cond-keeps (λ x. isReading (x .case) ≡ false) (isPassed (caseOf t a l)) (grant (a .method) t a l client) (denied t (caseOf t a l))
     (λ _. ap isReading (grant-passes (a .method) t a l client)) (λ _. case-unread t a l)
-
--- the frontends are few
-pub frontends-few : (t : SatBox) → Whole t → t .frontends ≤ 8
-frontends-few t w = few-frontends (t .frontends) (t .size) (w .formed .sizes)
 
 -- a session's numbers, as the code keeps them
 pub numbers : {s : Session} → s .number < 4294967296 → s .address < 4294967296 → s .port < 4294967296 → s .stream < 256 → Numbers s
@@ -103,8 +90,8 @@ module _ (s : List ℕ) (address draw : ℕ) (t : SatBox) (r : Request) (i : Req
       let client = clientOf address draw a in
       cond-keeps (λ x. Follows r (x .case)) (reading.isPassed (requestRefusal (t .frontends) s))
       (served t a (listsOf s) client) (denied t (Reading (requestRefusal (t .frontends) s)))
-      (λ e. follows-passed r (served t a (listsOf s) client .case) (i .refusal ∙ passed-is _ e) (served-unread t a (listsOf s) client))
-      (λ n. subst (λ q. Follows r (Reading q)) (i .refusal) (follows-refused r (ap reading.isPassed (i .refusal) ∙ n)))
+      (λ e. follows-passed (i .refusal ∙ passed-is _ e) (served-unread t a (listsOf s) client))
+      (λ n. follows-refused (ap Reading (sym (i .refusal))) (ap reading.isPassed (i .refusal) ∙ n))
 
   module _ {j k b d : List ℕ} {v : Served} {a : Answer} {n : ℕ}
       (p : Serves t j (answered s address draw t) v k) (m : Numbers (v .session)) (h : 4096 ≤ length b)

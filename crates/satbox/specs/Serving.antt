@@ -1,7 +1,6 @@
 -- Document 01, "The answer, first that applies", steps 16 to 18, and what a request does where nothing refuses it. Assumes nothing.
 use Prim.Native.Nat.{ℕ}
 use mathlib.Core.Bool.{Bool, true, false, not, cond, _&&_, _||_}
-use mathlib.Core.List.{List}
 use lib.Dec.{eqb}
 use lib.ListN.{getD, set}
 use Rattle.aim.specs.declared.Method.{Method}

@@ -1,5 +1,5 @@
 -- What a request is answered with, by the reader's places, is what its bytes say; and every such answer fits its buffer. Assumes nothing.
-use mathlib.Core.Path.{_≡_, refl, ap, subst, _∙_, sym}
+use mathlib.Core.Path.{_≡_, refl, ap, _∙_, sym}
 use mathlib.Core.Bool.{Bool, true, false, not, cond, _&&_}
 use mathlib.Core.List.{List, []}
 use Prim.Native.Nat.{ℕ, _≤_, _<_}
@@ -12,10 +12,10 @@ use Rattle.scan.specs.Lists.{Holds}
 use Rattle.scan.specs.declared.Span.{Span}
 use Rattle.scan.proofs.Bools.{never, by-test, cond-keeps}
 use Rattle.scan.proofs.Parts.{holds-length}
-use Rattle.digits.specs.Reading.{isValue}
+use Rattle.digits.specs.Reading.{readNumber, isValue}
 use Rattle.digits.specs.declared.Zeros.the-variants.{Allowed}
 use Rattle.digits.specs.declared.Read.{Read}
-use Rattle.digits.specs.declared.Read.the-variants.{Value, Nothing}
+use Rattle.digits.specs.declared.Read.the-variants.{Nothing}
 use Rattle.lines.specs.Lines.{isLaidOut, requestLine, headerLines}
 use Rattle.lines.specs.Headers.{valuesOf, firstValue}
 use Rattle.target.specs.Line.{isThree}
@@ -35,27 +35,15 @@ use Rattle.answer.specs.Lines.{textAt, statusLine, cseqLine}
 use Rattle.answer.specs.Answers.{linesBy, answerWith, answerText}
 use Rattle.answer.specs.declared.Kind.{Kind}
 use Rattle.answer.specs.declared.Kind.the-variants as kind
-use Rattle.answer.proofs.Fits.{small-read, answer-fits}
-use Rattle.steps.proofs.Telling.{Is-read, number-most, asked-short, head-short}
+use Rattle.stream.proofs.Edits.{read-most}
+use Rattle.answer.proofs.Fits.{Is-small, Is-read, as-read, answer-fits}
+use Rattle.steps.proofs.Telling.{asked-short, head-short}
 use Rattle.steps.specs.Cases.{statusOf, isPassed, _refuses_or_ as _stops_or_}
 use Rattle.steps.specs.Steps.{lacksSession, isDead, isOutOfState, isAnothers, lacksPort, tableCase}
 use Rattle.steps.specs.Replies.{grantedKind, kindOf, reply, replyTo, wordIn, replyText}
 use Rattle.steps.specs.declared.Sight.{Sight}
 use Rattle.steps.specs.declared.cases.Case.{Case}
 use Rattle.steps.specs.declared.cases.Case.the-variants.{Passed, Reading, NoSession, NotLive, State, NotOwner, Transport, Combination, TooManyPids, Full}
-
--- a case that what was read may have: its refusal, or where it has none any other
-abbrev pub Follows : Request → Case → Type 0
-Follows r Passed = r .refusal ≡ refusal.Passed
-Follows r (Reading q) = (q ≡ r .refusal) × (reading.isPassed q ≡ false)
-Follows r NoSession = r .refusal ≡ refusal.Passed
-Follows r NotLive = r .refusal ≡ refusal.Passed
-Follows r State = r .refusal ≡ refusal.Passed
-Follows r NotOwner = r .refusal ≡ refusal.Passed
-Follows r Transport = r .refusal ≡ refusal.Passed
-Follows r Combination = r .refusal ≡ refusal.Passed
-Follows r TooManyPids = r .refusal ≡ refusal.Passed
-Follows r Full = r .refusal ≡ refusal.Passed
 
 abbrev pub isReading : Case → Bool
 isReading Passed = false
@@ -69,34 +57,45 @@ isReading Combination = false
 isReading TooManyPids = false
 isReading Full = false
 
-pub follows-passed : (r : Request) (c : Case) → r .refusal ≡ refusal.Passed → isReading c ≡ false → Follows r c
-follows-passed r Passed p n = p
-follows-passed r (Reading q) p n = never refl n
-follows-passed r NoSession p n = p
-follows-passed r NotLive p n = p
-follows-passed r State p n = p
-follows-passed r NotOwner p n = p
-follows-passed r Transport p n = p
-follows-passed r Combination p n = p
-follows-passed r TooManyPids p n = p
-follows-passed r Full p n = p
+-- a case that what was read may have: its refusal, or where it has none any other
+pub data Follows (r : Request) (c : Case) : Type 0 where
+  follows-passed : r .refusal ≡ refusal.Passed → isReading c ≡ false → Follows r c
+  follows-refused : c ≡ Reading (r .refusal) → reading.isPassed (r .refusal) ≡ false → Follows r c
 
-pub follows-refused : (r : Request) → reading.isPassed (r .refusal) ≡ false → Follows r (Reading (r .refusal))
-follows-refused r n = (refl, n)
+-- a case that refuses, and is answered without a word
+abbrev Is-bare : Case → Type 0
+Is-bare c = (isPassed c ≡ false) × ((method : Method) → kindOf c method ≡ kind.Bare) × ((s : List ℕ) → wordIn c s ≡ [])
+
+-- what holds of the case that passes, and of every such case, holds of all that are not the reading's
+unread-keeps : (P : Case → Type 0) → P Passed → ((c : Case) → Is-bare c → P c) → (c : Case) → isReading c ≡ false → P c
+unread-keeps P p q Passed n = p
+unread-keeps P p q (Reading x) n = never refl n
+unread-keeps P p q NoSession n = q NoSession (refl, λ _. refl, λ _. refl)
+unread-keeps P p q NotLive n = q NotLive (refl, λ _. refl, λ _. refl)
+unread-keeps P p q State n = q State (refl, λ _. refl, λ _. refl)
+unread-keeps P p q NotOwner n = q NotOwner (refl, λ _. refl, λ _. refl)
+unread-keeps P p q Transport n = q Transport (refl, λ _. refl, λ _. refl)
+unread-keeps P p q Combination n = q Combination (refl, λ _. refl, λ _. refl)
+unread-keeps P p q TooManyPids n = q TooManyPids (refl, λ _. refl, λ _. refl)
+unread-keeps P p q Full n = q Full (refl, λ _. refl, λ _. refl)
+
+-- only one of them passes
+pub unread-passed : (c : Case) → isReading c ≡ false → isPassed c ≡ true → c ≡ Passed
+unread-passed = unread-keeps (λ c. isPassed c ≡ true → c ≡ Passed) (λ _. refl) (λ c b e. never e (b .0))
 
 -- steps 11 to 15 are none of the reading's
+pub unread-chain : (b : Bool) (c d : Case) → isReading c ≡ false → isReading d ≡ false → isReading (b stops c or d) ≡ false
+unread-chain true c d p q = p
+unread-chain false c d p q = q
+
 pub table-unread : (v : Sight) → isReading (tableCase v) ≡ false
 unfolding tableCase
-table-unread v = by (lacksSession v) (isDead v) (isOutOfState v) (isAnothers v) (lacksPort v)
-  where
-    by : (a b c d e : Bool)
-        → isReading (a stops NoSession or b stops NotLive or c stops State or d stops NotOwner or e stops Transport or Passed) ≡ false
-    by true b c d e = refl
-    by false true c d e = refl
-    by false false true d e = refl
-    by false false false true e = refl
-    by false false false false true = refl
-    by false false false false false = refl
+table-unread v =
+    unread-chain (lacksSession v) NoSession _ refl
+    (unread-chain (isDead v) NotLive _ refl
+    (unread-chain (isOutOfState v) State _ refl
+    (unread-chain (isAnothers v) NotOwner _ refl
+    (unread-chain (lacksPort v) Transport Passed refl refl))))
 
 -- THE WORD THAT AN ANSWER REPEATS
 text-held : (s ys : List ℕ) (place : Span) → Holds s ys (place .start) (place .end) → textAt s place ≡ ys
@@ -180,36 +179,23 @@ module _ (frontends : ℕ) (s : List ℕ) (r : Request) (i : RequestIs frontends
   text-after : r .refusal ≡ refusal.Passed → textAt s (r .require) ≡ []
   text-after p = text-none (λ e. let n : _≡_ {A = ℕ} 0 5 = ap reading.stepOf (sym p) ∙ e in omega arith)
 
-  required-by : (q : Refusal) → q ≡ r .refusal → eqb (reading.stepOf q) 5 ≡ true → headRefusal s ≡ refusal.Require
-  required-by q p e = required frontends s (ap reading.stepOf (sym (p ∙ i .refusal)) ∙ eqb-true (reading.stepOf q) 5 e)
+  required-by : eqb (reading.stepOf (r .refusal)) 5 ≡ true → headRefusal s ≡ refusal.Require
+  required-by e = required frontends s (ap reading.stepOf (sym (i .refusal)) ∙ eqb-true (reading.stepOf (r .refusal)) 5 e)
 
-  pub word-told : (c : Case) → Follows r c → textAt s (cond (isPassed c) (r .host) (r .require)) ≡ wordIn c s
-  word-told Passed p = text-held s (hostOf (uriOf s)) (r .host) (i .host p)
-  word-told (Reading q) p =
-      rw (p .1)
-      (by-test (λ t. textAt s (r .require) ≡ cond t (firstValue (valuesOf 3 (headerLines s))) []) (eqb (reading.stepOf q) 5)
-      (λ e. text-held s _ (r .require) (i .require (required-by q (p .0) e)))
-      (λ n. text-none (λ e. eqb-false (reading.stepOf q) 5 n (ap reading.stepOf (p .0) ∙ e))))
-  word-told NoSession p = text-after p
-  word-told NotLive p = text-after p
-  word-told State p = text-after p
-  word-told NotOwner p = text-after p
-  word-told Transport p = text-after p
-  word-told Combination p = text-after p
-  word-told TooManyPids p = text-after p
-  word-told Full p = text-after p
+  word-told : (c : Case) → Follows r c → textAt s (cond (isPassed c) (r .host) (r .require)) ≡ wordIn c s
+  word-told c (follows-passed p n) =
+      unread-keeps (λ x. textAt s (cond (isPassed x) (r .host) (r .require)) ≡ wordIn x s) (text-held s (hostOf (uriOf s)) (r .host) (i .host p))
+      (λ x b. rw (b .0, b .2 s) (text-after p)) c n
+  word-told c (follows-refused e n) =
+      rw (e, n)
+      (by-test (λ t. textAt s (r .require) ≡ cond t (firstValue (valuesOf 3 (headerLines s))) []) (eqb (reading.stepOf (r .refusal)) 5)
+      (λ y. text-held s _ (r .require) (i .require (required-by y)))
+      (λ z. text-none (eqb-false (reading.stepOf (r .refusal)) 5 z)))
 
   kind-told : (c : Case) → Follows r c → kindOf c (r .method) ≡ kindOf c (methodOf s)
-  kind-told Passed p = ap grantedKind (i .method p)
-  kind-told (Reading q) p = refl
-  kind-told NoSession p = refl
-  kind-told NotLive p = refl
-  kind-told State p = refl
-  kind-told NotOwner p = refl
-  kind-told Transport p = refl
-  kind-told Combination p = refl
-  kind-told TooManyPids p = refl
-  kind-told Full p = refl
+  kind-told c (follows-passed p n) =
+      unread-keeps (λ x. kindOf x (r .method) ≡ kindOf x (methodOf s)) (ap grantedKind (i .method p)) (λ x b. b .1 _ ∙ sym (b .1 _)) c n
+  kind-told c (follows-refused e n) = rw e
 
   -- THE ANSWER IS WHAT THE REQUEST'S BYTES SAY
   pub reply-told : (c : Case) (session : Session) → Follows r c → answerText s (replyTo c r session) ≡ replyText c s session
@@ -217,29 +203,17 @@ module _ (frontends : ℕ) (s : List ℕ) (r : Request) (i : RequestIs frontends
   reply-told c session p =
       rw (word-told c p, kind-told c p, i .cseq) (placeless (wordIn c s) c (methodOf s) (cseqOf s) session (cond (isPassed c) (r .host) (r .require)))
 
-  pub reply-passed : (c : Case) (session : Session) → r .refusal ≡ refusal.Passed → isReading c ≡ false → answerText s (replyTo c r session) ≡ replyText c s session
-  reply-passed c session p n = reply-told c session (follows-passed r c p n)
-
-  pub reply-refused : (session : Session) → reading.isPassed (r .refusal) ≡ false
-      → answerText s (replyTo (Reading (r .refusal)) r session) ≡ replyText (Reading (r .refusal)) s session
-  reply-refused session n = reply-told (Reading (r .refusal)) session (follows-refused r n)
-
   -- ITS WORD IS SHORT
   pub word-short : (c : Case) → Follows r c → length (wordIn c s) ≤ 2048
-  word-short Passed p = held-short (asked-short frontends s (sym (i .refusal) ∙ p)) (i .host p)
-  word-short (Reading q) p =
-      cond-keeps (λ (l : List ℕ). length l ≤ 2048) (eqb (reading.stepOf q) 5) (firstValue (valuesOf 3 (headerLines s))) []
-      (λ e. let h = required-by q (p .0) e in
-      held-short (head-short s (λ z. let n : _≡_ {A = ℕ} 5 1 = ap reading.stepOf (sym h ∙ z) in omega arith)) (i .require h))
-      (λ _. omega arith)
-  word-short NoSession p = omega arith
-  word-short NotLive p = omega arith
-  word-short State p = omega arith
-  word-short NotOwner p = omega arith
-  word-short Transport p = omega arith
-  word-short Combination p = omega arith
-  word-short TooManyPids p = omega arith
-  word-short Full p = omega arith
+  word-short c (follows-passed p n) =
+      unread-keeps (λ x. length (wordIn x s) ≤ 2048) (held-short (asked-short frontends s (sym (i .refusal) ∙ p)) (i .host p))
+      (λ x b. rw (b .2 s) (omega arith)) c n
+  word-short c (follows-refused e n) =
+      rw e
+      (cond-keeps (λ (l : List ℕ). length l ≤ 2048) (eqb (reading.stepOf (r .refusal)) 5) (firstValue (valuesOf 3 (headerLines s))) []
+      (λ y. let h = required-by y in
+      held-short (head-short s (λ z. let k : _≡_ {A = ℕ} 5 1 = ap reading.stepOf (sym h ∙ z) in omega arith)) (i .require h))
+      (λ _. omega arith))
 
 -- EVERY ANSWER FITS
 status-read : (q : Refusal) → reading.statusOf q < 1000
@@ -260,7 +234,7 @@ status-read refusal.PidsUnstreamed = omega arith
 status-read refusal.Value = omega arith
 status-read refusal.NoStream = omega arith
 
-pub status-small : (c : Case) → statusOf c < 1000
+status-small : (c : Case) → statusOf c < 1000
 status-small Passed = omega arith
 status-small (Reading q) = status-read q
 status-small NoSession = omega arith
@@ -272,15 +246,14 @@ status-small Combination = omega arith
 status-small TooManyPids = omega arith
 status-small Full = omega arith
 
-pub cseq-small : (s : List ℕ) (v : ℕ) → cseqOf s ≡ Value v → v < 4294967296
+cseq-small : (s : List ℕ) → Is-read Is-small (cseqOf s)
 unfolding cseqOf cseqFrom
-cseq-small s v e =
-    let h : v ≤ 4294967295 = subst (Is-read (λ n. n ≤ 4294967295)) e
-    (cond-keeps (Is-read (λ n. n ≤ 4294967295)) (isLaidOut s) _ Nothing
-    (λ _. cond-keeps (Is-read (λ n. n ≤ 4294967295)) (eqb (length (valuesOf 0 (headerLines s))) 1) _ Nothing
-    (λ _. number-most Allowed 10 4294967295 (firstValue (valuesOf 0 (headerLines s)))) (λ _. tt))
-    (λ _. tt)) in
-    omega arith
+cseq-small s =
+    let value = firstValue (valuesOf 0 (headerLines s)) in
+    cond-keeps (Is-read Is-small) (isLaidOut s) _ Nothing
+    (λ _. cond-keeps (Is-read Is-small) (eqb (length (valuesOf 0 (headerLines s))) 1) _ Nothing
+    (λ _. as-read Is-small (readNumber Allowed 10 4294967295 value) (λ v e. omega (arith, read-most 10 4294967295 value e))) (λ _. tt))
+    (λ _. tt)
 
 -- a session's numbers of 32 bits, as the code's are
 pub record Numbers (session : Session) : Type 0 where
@@ -295,7 +268,7 @@ reply-fits c s session n h =
     answer-fits (wordIn c s) (reply c (methodOf s) (cseqOf s) session nowhere)
     (record {
       status = omega (arith, status-small c);
-      cseq = small-read (cseqOf s) (cseq-small s);
+      cseq = cseq-small s;
       session = n .number;
       stream = n .stream;
       address = n .address;

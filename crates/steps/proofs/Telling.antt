@@ -1,7 +1,7 @@
 -- What the reader hands over of a request that it lets through is what the request asks; and what such a request asks is in range.
 -- Assumes nothing.
 use mathlib.Core.Path.{_≡_, refl, ap, subst, _∙_, sym}
-use mathlib.Core.Bool.{Bool, true, false, not, _&&_}
+use mathlib.Core.Bool.{Bool, true, false, not}
 use mathlib.Core.List.{List, [], _∷_, map}
 use Prim.Native.Nat.{ℕ, zero, suc, _+_, _%_, _≤_, _<_}
 use native.Mathlib.Decide.{ℕ-discrete}
@@ -15,7 +15,7 @@ use Rattle.scan.specs.Lists.{part}
 use Rattle.scan.specs.Trim.{isEmpty}
 use Rattle.scan.proofs.Bools.{never, by-cases, by-test, cond-keeps, and-both, or-right}
 use Rattle.scan.proofs.Parts.{holds-length}
-use Rattle.digits.specs.Reading.{readNumber, atLeast, isValue, areDigits, spelled, hasLeadingZero}
+use Rattle.digits.specs.Reading.{readNumber, atLeast, isValue, hasLeadingZero}
 use Rattle.digits.specs.declared.Zeros.{Zeros}
 use Rattle.digits.specs.declared.Zeros.the-variants.{Allowed, Refused}
 use Rattle.digits.specs.declared.Read.{Read}
@@ -27,6 +27,7 @@ use Rattle.target.specs.Uri.{streamIn, streamOf, restOf, slash, startsWith, has
 use Rattle.tuning.specs.Values.{valueOf}
 use Rattle.stream.specs.Values.{kept, isFit, areFit}
 use Rattle.stream.specs.Pids.{isIn}
+use Rattle.stream.proofs.Edits.{read-most}
 use Rattle.stream.proofs.Fitting.{all-in, fit-of, read-ranged}
 use Rattle.aim.specs.Query.{partsOf, attributeIn, valueIn, codeFrom, codeAmong, codeOf}
 use Rattle.aim.specs.Aim.{queryIn, codeIn}
@@ -38,6 +39,7 @@ use Rattle.reader.specs.declared.fields.Transport.{Transport}
 use Rattle.reader.specs.declared.fields.Transport.the-variants.{Other, Port}
 use Rattle.reader.specs.Request.{methodOf, uriOf, isOther, cseqOf, isTwice, isVersion, headRefusal, requestRefusal, RequestIs}
 use Rattle.reader.specs.declared.Request.{Request}
+use Rattle.answer.proofs.Fits.{Is-read, as-read}
 use Rattle.steps.specs.Asked.{streamFrom, codesIn, askedOf, listsOf, askedBy, listsBy, Told}
 
 -- THE CODES, by the attribute's place
@@ -86,25 +88,15 @@ module _ (frontends : ℕ) (s : List ℕ) (r : Request) (i : RequestIs frontends
       }
 
 -- WHAT IS READ OF A TEXT IS IN RANGE
--- a number, where one was read
-abbrev pub Is-read : (ℕ → Type 0) → Read → Type 0
-Is-read P (Value v) = P v
-Is-read P Nothing = Unit {0}
+-- a number is at most its limit
+plain-most : (most limit : ℕ) (xs : List ℕ) → Is-read (λ v. v ≤ limit) (readNumber Allowed most limit xs)
+plain-most most limit xs = as-read (λ v. v ≤ limit) (readNumber Allowed most limit xs) (λ v. read-most most limit xs)
 
--- it is at most its limit
-pub number-most : (zeros : Zeros) (most limit : ℕ) (xs : List ℕ) → Is-read (λ v. v ≤ limit) (readNumber zeros most limit xs)
+number-most : (zeros : Zeros) (most limit : ℕ) (xs : List ℕ) → Is-read (λ v. v ≤ limit) (readNumber zeros most limit xs)
 unfolding readNumber
-number-most zeros most limit xs = by zeros
-  where
-    plain : Is-read (λ v. v ≤ limit) (readNumber Allowed most limit xs)
-    plain =
-        cond-keeps (Is-read (λ v. v ≤ limit)) (leb 1 (length xs) && (leb (length xs) most && (areDigits 10 xs && leb (spelled 10 xs) limit))) (Value (spelled 10 xs)) Nothing
-        (λ e. leb-true (spelled 10 xs) limit (and-both (areDigits 10 xs) _ (and-both (leb (length xs) most) _ (and-both (leb 1 (length xs)) _ e .1) .1) .1))
-        (λ _. tt)
-
-    by : (z : Zeros) → Is-read (λ v. v ≤ limit) (readNumber z most limit xs)
-    by Allowed = plain
-    by Refused = cond-keeps (Is-read (λ v. v ≤ limit)) (hasLeadingZero xs) Nothing (readNumber Allowed most limit xs) (λ _. tt) (λ _. plain)
+number-most Allowed most limit xs = plain-most most limit xs
+number-most Refused most limit xs =
+    cond-keeps (Is-read (λ v. v ≤ limit)) (hasLeadingZero xs) Nothing (readNumber Allowed most limit xs) (λ _. tt) (λ _. plain-most most limit xs)
 
 -- and at least what it must be
 pub number-between : (zeros : Zeros) (most least limit : ℕ) (xs : List ℕ) → Is-read (λ v. (least ≤ v) × (v ≤ limit)) (atLeast least (readNumber zeros most limit xs))

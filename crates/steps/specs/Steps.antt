@@ -1,5 +1,4 @@
 -- Document 01, "The answer, first that applies", steps 11 to 15, in its order. Assumes nothing.
-use Prim.Native.Nat.{ℕ}
 use mathlib.Core.Bool.{Bool, true, false, not, _&&_, _||_}
 use lib.Dec.{eqb, ltb}
 use Rattle.aim.specs.declared.Method.{Method}
