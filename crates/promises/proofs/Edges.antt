@@ -36,14 +36,12 @@ use Rattle.table.specs.Counts.{any}
 use Rattle.table.specs.Table.{noSession, has, isOpen, opens}
 use Rattle.table.specs.Formed.{isSeated, isEmpty, wellFormed}
 use Rattle.table.specs.Finding.{drawnFrom, lowestFrontend, drawn}
-use Rattle.table.specs.Made.{fresh}
 use Rattle.table.specs.declared.Session.{Session}
 use Rattle.table.specs.declared.SatBox.{SatBox}
 use Rattle.table.specs.declared.Outcome.the-variants.{Done}
 use Rattle.table.proofs.Draws.{drawn-new, drawn-nonzero}
 use Rattle.answer.specs.Lines.{reasonOf}
 use Rattle.steps.specs.Asked.{Asked, Lists, codesIn}
-use Rattle.steps.specs.Cases.{stepOf, statusOf}
 use Rattle.steps.specs.Sights.{sightOf}
 use Rattle.steps.specs.Steps.{lacksSession, isDead, isOutOfState, isAnothers, lacksPort, tableCase}
 use Rattle.steps.specs.Replies.{replyText}
@@ -52,9 +50,10 @@ use Rattle.steps.specs.declared.cases.Case.the-variants.{Reading, Transport, To
 use Rattle.satbox.specs.Did.{nothing, upto, restreamed, reseated, noting, bytesOf}
 use Rattle.satbox.specs.Closing.{isExpired, closeOne, closeOn, cascade, closing, sweepAt, swept, atClock, sweeping}
 use Rattle.satbox.specs.Opening.{seating, joining, opening}
-use Rattle.satbox.specs.Serving.{Serving, merging, changeCase, caseOf, replaced, served}
+use Rattle.satbox.specs.Serving.{merging, changeCase, caseOf, replaced, served}
 use Rattle.satbox.specs.Requests.{answered, requested, answerOf, requestOutcome, repliedInto, repliedJournal}
 use Rattle.satbox.specs.declared.opening.Client.{Client}
+use Rattle.promises.proofs.Asks.{example, exampleAnswer, setupAt, setup, join, play, teardown, box, home, verdictOf, verdict, passes, ask, run, after}
 use Rattle.promises.proofs.EdgeLaws.{drawn-first, RefusedAs, ReadsAs, refused-alike, served-alike}
 
 -- Named on a proof's `unfolding` line, these let meanings be worked out there: of reading, of lists of PIDs, of serving; and all of them
@@ -73,76 +72,6 @@ serving = 0
 meanings : ℕ
 unfolding reading listing serving answerOf replyText reasonOf decimal hex8 dotted width numeral encoded repliedInto repliedJournal written wellFormed isSeated isEmpty isSound areZero areNone areInRange isInRange isChoice
 meanings = 0
-
--- THE REQUESTS: document 01's example
-abbrev example : List ℕ
-example =
-    text "SETUP rtsp://10.0.0.5/?freq=11538&pol=v&msys=dvbs&sr=22000&fec=56&pids=0,611 RTSP/1.0\r\n"
-    & text "CSeq: 1\r\n"
-    & text "Transport: RTP/AVP;unicast;client_port=5000-5001\r\n"
-    & text "\r\n"
-
--- and its answer
-abbrev exampleAnswer : List ℕ
-exampleAnswer =
-    text "RTSP/1.0 200 OK\r\n"
-    & text "CSeq: 1\r\n"
-    & text "Session: 00000001;timeout=60\r\n"
-    & text "Transport: RTP/AVP;unicast;destination=192.168.178.39;client_port=5000-5001\r\n"
-    & text "com.ses.streamID: 1\r\n"
-    & text "\r\n"
-
--- an opening SETUP by its query and its ports
-abbrev setupAt : List ℕ → List ℕ → List ℕ
-setupAt query ports =
-    text "SETUP rtsp://10.0.0.5/?" & query & text " RTSP/1.0\r\n"
-    & text "CSeq: 1\r\n"
-    & text "Transport: RTP/AVP;unicast;client_port=" & ports & text "\r\n"
-    & text "\r\n"
-
-abbrev setup : List ℕ → List ℕ
-setup query = setupAt query (text "5000-5001")
-
--- a SETUP that joins stream 1
-abbrev join : List ℕ
-join = text "SETUP rtsp://10.0.0.5/stream=1 RTSP/1.0\r\nCSeq: 2\r\nTransport: RTP/AVP;unicast;client_port=5002-5003\r\n\r\n"
-
--- a PLAY and a TEARDOWN of stream 1 in session 1
-abbrev play : List ℕ → List ℕ
-play query = text "PLAY rtsp://10.0.0.5/stream=1" & query & text " RTSP/1.0\r\nCSeq: 3\r\nSession: 00000001\r\n\r\n"
-
-abbrev teardown : List ℕ
-teardown = text "TEARDOWN rtsp://10.0.0.5/stream=1 RTSP/1.0\r\nCSeq: 4\r\nSession: 00000001\r\n\r\n"
-
--- THE BOX with F = 2 and C = 1,024, and the client's address, 192.168.178.39
-abbrev box : SatBox
-box = fresh 2 1024
-
-abbrev home : ℕ
-home = 0xC0A8B227
-
--- THE ANSWERS: the step that refuses, 0 where none does, and the status
-abbrev verdictOf : Case → ℕ × ℕ
-verdictOf case = (stepOf case, statusOf case)
-
-abbrev verdict : Serving → ℕ × ℕ
-verdict x = verdictOf (x .case)
-
-abbrev passes : ℕ × ℕ
-passes = (0, 200)
-
--- one request at clock 0 and with draw 1
-abbrev ask : List ℕ → SatBox → Serving
-ask s t = requested s 0 home 1 t
-
--- several, one after the other, all with one draw: what each does, and the box after them
-abbrev run : ℕ → List (List ℕ) → SatBox → List Serving
-run draw [] t = []
-run draw (s ∷ rest) t = requested s 0 home draw t ∷ run draw rest (requested s 0 home draw t .did .satbox)
-
-abbrev after : ℕ → List (List ℕ) → SatBox → SatBox
-after draw [] t = t
-after draw (s ∷ rest) t = after draw rest (requested s 0 home draw t .did .satbox)
 
 -- a request's verdict is the same on every box, at every clock, from every address and with every draw
 abbrev Always : List ℕ → ℕ × ℕ → Type 0
