@@ -1,7 +1,7 @@
 // The script, line by line: each line is a command by its first word, and any other line is only shown.
+use crate::asking;
 use crate::calls;
 use crate::fields;
-use crate::openings;
 use crate::out;
 use crate::script;
 use crate::show;
@@ -22,24 +22,21 @@ fn show_journal(t: SatBox, journal: &[u8], line: &[u8]) -> SatBox {
 
 fn command(t: SatBox, journal: &mut [u8], line: &[u8]) -> SatBox {
     let place = scan::place_among(
-        b"box tick collect order open join merge play refresh set spoil table journal",
+        b"box ask lend tick collect order set spoil table journal",
         script::word(line, 0),
         Case::Counts,
     );
     match place {
         0 => calls::make(journal, line),
-        1 => calls::tick(t, journal, line),
-        2 => calls::collect(t, journal, line),
-        3 => calls::order(t, line),
-        4 => openings::open(t, journal, line),
-        5 => openings::join(t, journal, line),
-        6 => openings::merge(t, line),
-        7 => openings::reseat(t, line, fields::PLAYING, 1),
-        8 => openings::reseat(t, line, fields::LAST, t.clock),
-        9 => fields::set(t, line),
-        10 => calls::spoil(t, journal, line),
-        11 => show_table(t),
-        12 => show_journal(t, journal, line),
+        1 => asking::ask(t, journal, line),
+        2 => asking::lend(t, journal, line),
+        3 => calls::tick(t, journal, line),
+        4 => calls::collect(t, journal, line),
+        5 => calls::order(t, line),
+        6 => fields::set(t, line),
+        7 => calls::spoil(t, journal, line),
+        8 => show_table(t),
+        9 => show_journal(t, journal, line),
         _ => t,
     }
 }

@@ -1,4 +1,4 @@
-// One field of a table set by hand: what a request will set one day, and what no call ever sets.
+// One field of a table set by hand, as no call sets it.
 use crate::script;
 use scan::Case;
 use stream::Stream;
@@ -6,12 +6,7 @@ use stream::Values;
 use table::SatBox;
 use table::Session;
 
-// The fields that requests will set in an open session, by their place in `set`'s list.
-pub(crate) const LAST: usize = 2;
-
-pub(crate) const PLAYING: usize = 6;
-
-pub(crate) fn small(v: u32) -> u8 {
+fn small(v: u32) -> u8 {
     if v < 255 { v as u8 } else { 255 }
 }
 
@@ -85,8 +80,7 @@ fn in_box(t: SatBox, field: usize, v: u32) -> SatBox {
     u
 }
 
-// The table with the session at a place changed.
-pub(crate) fn set_session(t: SatBox, place: usize, field: usize, v: u32) -> SatBox {
+fn set_session(t: SatBox, place: usize, field: usize, v: u32) -> SatBox {
     let mut u = t;
     if place < SatBox::SESSIONS {
         u.sessions[place] = in_session(t.sessions[place], field, v);

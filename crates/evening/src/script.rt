@@ -20,7 +20,7 @@ fn next_start(line: &[u8], at: usize) -> usize {
 }
 
 // Where a word starts; they count from 0.
-pub(crate) fn start(line: &[u8], k: usize) -> usize {
+fn start(line: &[u8], k: usize) -> usize {
     let mut at = 0;
     let mut i = 0;
     while i < k {
@@ -34,6 +34,11 @@ pub(crate) fn word(line: &[u8], k: usize) -> &[u8] {
     let at = start(line, k);
     let e = scan::first_from(line, at, Class::Is(b' '));
     part(line, at, e)
+}
+
+// A line from one of its words on.
+pub(crate) fn rest(line: &[u8], k: usize) -> &[u8] {
+    part(line, start(line, k), line.len())
 }
 
 // The number that a word is, or another where it is none.

@@ -1,10 +1,10 @@
--- `evening::calls::fill` meets its contract. Assumes nothing.
+-- `evening::lent::fill` meets its contract. Assumes nothing.
 use borrow.Author.Needs.{needs}
 use Prim.Native.Nat.{_-_, _≤_}
 use mathlib.Core.Path.{_≡_}
 use lib.ListN.{length}
-use Rattle.evening.proofs.calls.fill.Statement.{statement}
-use Rattle.evening.proofs.calls.fill.Tie as tie
+use Rattle.evening.proofs.lent.fill.Statement.{statement}
+use Rattle.evening.proofs.lent.fill.Tie as tie
 
 abbrev Inv-loop : tie.InvT-loop
 Inv-loop buf₀ b i₀ buf i = (i ≤ length buf₀) × (length buf ≡ length buf₀)

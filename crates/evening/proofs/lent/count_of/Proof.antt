@@ -1,9 +1,9 @@
--- `evening::calls::count_of` meets its contract. Assumes nothing.
+-- `evening::lent::count_of` meets its contract. Assumes nothing.
 use borrow.Author.Needs.{needs}
 use Prim.Native.Nat.{_-_, _≤_}
 use lib.ListN.{length}
-use Rattle.evening.proofs.calls.count_of.Statement.{statement}
-use Rattle.evening.proofs.calls.count_of.Tie as tie
+use Rattle.evening.proofs.lent.count_of.Statement.{statement}
+use Rattle.evening.proofs.lent.count_of.Tie as tie
 
 abbrev Inv-loop : tie.InvT-loop
 Inv-loop s b n₀ i₀ n i = i ≤ length s
