@@ -1,0 +1,97 @@
+// The door to C: the box lent by a reference, one thin function for each call. Each hands the box by value to the call, and stores what the
+// call gives. What C gets back is a refusal's number, 0 where the call was done, and what was counted.
+mod records;
+mod turns;
+
+pub use records::Found;
+pub use records::Noted;
+pub use turns::Ordered;
+pub use turns::Reply;
+ghost use mathlib.Core.Path.{_≡_};
+ghost use Rattle.satbox.specs.Calls.{tickedJournal, collectedInto};
+ghost use Rattle.satbox.specs.Requests.{repliedInto, repliedJournal};
+ghost use Rattle.door.specs.Records.{readReply, writeReply};
+ghost use Rattle.door.specs.Turns.{made, madeNumber, requested, requestReply, ticked, tickNumber, collected, collectReply, orderReply};
+use journal::Record;
+use table::SatBox;
+
+// Makes a box where one lies.
+#[no_mangle]
+pub extern "C" fn satbox_make(t: &mut SatBox, frontends: u32, size: u32) -> u32
+    ensures { λ r. ⌜ (r ≡ madeNumber frontends size) × (now (t .exit) ≡ made frontends size) ⌝ }
+{
+    let s = turns::make(*t, frontends, size);
+    *t = s.satbox;
+    s.refusal
+}
+
+// Answers a request.
+#[no_mangle]
+pub extern "C" fn satbox_request(
+    t: &mut SatBox,
+    request: &[u8],
+    clock: u32,
+    address: u32,
+    draw: u32,
+    answer: &mut [u8],
+    journal: &mut [u8],
+) -> Reply
+    ensures { λ r. ⌜ (r ≡ requestReply (now (request .entry)) clock address draw (now (t .entry)) (now (answer .entry)) (now (journal .entry)))
+        × (now (t .exit) ≡ requested (now (request .entry)) clock address draw (now (t .entry)) (now (answer .entry)) (now (journal .entry)))
+        × (now (answer .exit) ≡ repliedInto (now (request .entry)) clock address draw (now (t .entry)) (now (answer .entry)) (now (journal .entry)))
+        × (now (journal .exit) ≡ repliedJournal (now (request .entry)) clock address draw (now (t .entry)) (now (answer .entry)) (now (journal .entry))) ⌝ }
+{
+    let s = turns::request(*t, request, clock, address, draw, answer, journal);
+    *t = s.satbox;
+    s.reply
+}
+
+// Closes every session that has expired.
+#[no_mangle]
+pub extern "C" fn satbox_tick(t: &mut SatBox, clock: u32, journal: &mut [u8]) -> u32
+    ensures { λ r. ⌜ (r ≡ tickNumber clock (now (t .entry)) (now (journal .entry)))
+        × (now (t .exit) ≡ ticked clock (now (t .entry)) (now (journal .entry)))
+        × (now (journal .exit) ≡ tickedJournal clock (now (t .entry)) (now (journal .entry))) ⌝ }
+{
+    let s = turns::tick(*t, clock, journal);
+    *t = s.satbox;
+    s.refusal
+}
+
+// Copies the bytes held to the front of a buffer, after which none are held.
+#[no_mangle]
+pub extern "C" fn satbox_collect(t: &mut SatBox, journal: &[u8], buffer: &mut [u8]) -> Reply
+    ensures { λ r. ⌜ (r ≡ collectReply (now (t .entry)) (now (journal .entry)) (now (buffer .entry)))
+        × (now (t .exit) ≡ collected (now (t .entry)) (now (journal .entry)) (now (buffer .entry)))
+        × (now (buffer .exit) ≡ collectedInto (now (t .entry)) (now (journal .entry)) (now (buffer .entry))) ⌝ }
+{
+    let s = turns::collect(*t, journal, buffer);
+    *t = s.satbox;
+    s.reply
+}
+
+// What a frontend is to be set to.
+#[no_mangle]
+pub extern "C" fn satbox_order(t: &mut SatBox, frontend: u32) -> Ordered
+    ensures { λ r. ⌜ (r ≡ orderReply (now (t .entry)) frontend) × (now (t .exit) ≡ now (t .entry)) ⌝ }
+{
+    let s = turns::order(*t, frontend);
+    *t = s.satbox;
+    s.ordered
+}
+
+// Reads the record at a place; places count from 0.
+#[no_mangle]
+pub extern "C" fn satbox_read_record(bytes: &[u8], place: usize) -> Found
+    ensures { λ r. ⌜ r ≡ readReply (now (bytes .entry)) place ⌝ }
+{
+    records::read(bytes, place)
+}
+
+// Writes a record's sixteen bytes.
+#[no_mangle]
+pub extern "C" fn satbox_write_record(entry: Record) -> Noted
+    ensures { λ r. ⌜ r ≡ writeReply entry ⌝ }
+{
+    records::write(entry)
+}

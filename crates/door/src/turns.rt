@@ -1,0 +1,158 @@
+// The calls by value, with what C gets of each.
+ghost use mathlib.Core.Path.{_≡_};
+ghost use mathlib.Core.Bool.{cond};
+ghost use lib.Dec.{ltb};
+ghost use Rattle.satbox.specs.Calls.{tickedJournal, collectedInto};
+ghost use Rattle.satbox.specs.Requests.{repliedInto, repliedJournal};
+ghost use Rattle.door.specs.Turns.{numberIn, made, madeNumber, requested, requestReply, ticked, tickNumber, collected, collectReply, orderNumber, isOn, orderReply};
+use stream::Stream;
+use table::Outcome;
+use table::SatBox;
+
+// A refusal's number, 0 where the call was done; and how many bytes it put into the buffer that it was lent.
+#[repr(C)]
+pub struct Reply {
+    pub refusal: u32,
+    pub count: u32,
+}
+
+// A frontend's order: a refusal's number, whether it is on, and the stream where it is.
+#[repr(C)]
+pub struct Ordered {
+    pub refusal: u32,
+    pub on: u32,
+    pub stream: Stream,
+}
+
+pub(crate) struct Replying {
+    pub(crate) reply: Reply,
+    pub(crate) satbox: SatBox,
+}
+
+pub(crate) struct Refusing {
+    pub(crate) refusal: u32,
+    pub(crate) satbox: SatBox,
+}
+
+pub(crate) struct Ordering {
+    pub(crate) ordered: Ordered,
+    pub(crate) satbox: SatBox,
+}
+
+fn number_in(outcome: Outcome) -> u32
+    ensures { λ r. ⌜ r ≡ numberIn outcome ⌝ }
+{
+    match outcome {
+        Outcome::Done => 0,
+        Outcome::Refused(refusal) => table::number(refusal) as u32,
+    }
+}
+
+pub(crate) fn request(
+    t: SatBox,
+    request: &[u8],
+    clock: u32,
+    address: u32,
+    draw: u32,
+    answer: &mut [u8],
+    journal: &mut [u8],
+) -> Replying
+    ensures { λ r. ⌜ (r .reply ≡ requestReply (now (request .entry)) clock address draw t (now (answer .entry)) (now (journal .entry)))
+        × (r .satbox ≡ requested (now (request .entry)) clock address draw t (now (answer .entry)) (now (journal .entry)))
+        × (now (answer .exit) ≡ repliedInto (now (request .entry)) clock address draw t (now (answer .entry)) (now (journal .entry)))
+        × (now (journal .exit) ≡ repliedJournal (now (request .entry)) clock address draw t (now (answer .entry)) (now (journal .entry))) ⌝ }
+{
+    let r = satbox::request(t, request, clock, address, draw, answer, journal);
+    let outcome = r.outcome;
+    let u = r.satbox;
+    let reply = Reply {
+        refusal: number_in(outcome),
+        count: r.count,
+    };
+    Replying { reply, satbox: u }
+}
+
+// A number of frontends in sixteen bits; no box has more, nor 0.
+fn few(frontends: u32) -> u16
+    ensures { λ r. ⌜ r ≡ cond (ltb 65535 frontends) 0 frontends ⌝ }
+{
+    if 65535 < frontends {
+        return 0;
+    }
+    frontends as u16
+}
+
+pub(crate) fn make(t: SatBox, frontends: u32, size: u32) -> Refusing
+    ensures { λ r. ⌜ (r .refusal ≡ madeNumber frontends size) × (r .satbox ≡ made frontends size) ⌝ }
+{
+    let made = SatBox::fresh(few(frontends), size);
+    let outcome = made.outcome;
+    let u = made.satbox;
+    Refusing {
+        refusal: number_in(outcome),
+        satbox: u,
+    }
+}
+
+pub(crate) fn tick(t: SatBox, clock: u32, journal: &mut [u8]) -> Refusing
+    ensures { λ r. ⌜ (r .refusal ≡ tickNumber clock t (now (journal .entry)))
+        × (r .satbox ≡ ticked clock t (now (journal .entry)))
+        × (now (journal .exit) ≡ tickedJournal clock t (now (journal .entry))) ⌝ }
+{
+    let r = satbox::tick(t, clock, journal);
+    let outcome = r.outcome;
+    let u = r.satbox;
+    Refusing {
+        refusal: number_in(outcome),
+        satbox: u,
+    }
+}
+
+pub(crate) fn collect(t: SatBox, journal: &[u8], buffer: &mut [u8]) -> Replying
+    ensures { λ r. ⌜ (r .reply ≡ collectReply t (now (journal .entry)) (now (buffer .entry)))
+        × (r .satbox ≡ collected t (now (journal .entry)) (now (buffer .entry)))
+        × (now (buffer .exit) ≡ collectedInto t (now (journal .entry)) (now (buffer .entry))) ⌝ }
+{
+    let r = satbox::collect(t, journal, buffer);
+    let outcome = r.outcome;
+    let u = r.satbox;
+    let reply = Reply {
+        refusal: number_in(outcome),
+        count: r.count,
+    };
+    Replying { reply, satbox: u }
+}
+
+fn order_number(outcome: orders::Ordered) -> u32
+    ensures { λ r. ⌜ r ≡ orderNumber outcome ⌝ }
+{
+    match outcome {
+        orders::Ordered::On => 0,
+        orders::Ordered::Off => 0,
+        orders::Ordered::Refused(refusal) => table::number(refusal) as u32,
+    }
+}
+
+fn is_on(outcome: orders::Ordered) -> u32
+    ensures { λ r. ⌜ r ≡ isOn outcome ⌝ }
+{
+    match outcome {
+        orders::Ordered::On => 1,
+        orders::Ordered::Off => 0,
+        orders::Ordered::Refused(refusal) => 0,
+    }
+}
+
+pub(crate) fn order(t: SatBox, frontend: u32) -> Ordering
+    ensures { λ r. ⌜ (r .ordered ≡ orderReply t frontend) × (r .satbox ≡ t) ⌝ }
+{
+    let r = orders::frontend_order(t, frontend);
+    let outcome = r.outcome;
+    let stream = r.stream;
+    let ordered = Ordered {
+        refusal: order_number(outcome),
+        on: is_on(outcome),
+        stream,
+    };
+    Ordering { ordered, satbox: t }
+}

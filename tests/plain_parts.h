@@ -1,0 +1,91 @@
+/*
+ * What the three files of the plain box share: plain_read.c reads a request, plain_box.c judges it before the
+ * table, plain_text.c writes the answer.
+ */
+#ifndef PLAIN_PARTS_H
+#define PLAIN_PARTS_H
+
+#include <stdbool.h>
+#include "plain.h"
+
+/* Bytes inside the request; with length 0 there need be none. */
+struct text {
+    const uint8_t *bytes;
+    size_t length;
+};
+
+/* The methods built, and any other. */
+enum method { METHOD_OTHER, METHOD_OPTIONS, METHOD_SETUP, METHOD_PLAY, METHOD_TEARDOWN };
+
+/* The statuses of document 01. */
+enum status {
+    STATUS_OK = 200,
+    STATUS_BAD_REQUEST = 400,
+    STATUS_FORBIDDEN = 403,
+    STATUS_NOT_FOUND = 404,
+    STATUS_METHOD_NOT_ALLOWED = 405,
+    STATUS_URI_TOO_LONG = 414,
+    STATUS_SESSION_NOT_FOUND = 454,
+    STATUS_NOT_VALID_IN_STATE = 455,
+    STATUS_UNSUPPORTED_TRANSPORT = 461,
+    STATUS_NOT_IMPLEMENTED = 501,
+    STATUS_UNAVAILABLE = 503,
+    STATUS_VERSION_NOT_SUPPORTED = 505,
+    STATUS_OPTION_NOT_SUPPORTED = 551
+};
+
+/* The codes the combination rule names, and the last code of each list of words. */
+enum {
+    POL_LAST = 4,
+    MSYS_DVBS = 1,
+    MSYS_LAST = 2,
+    MTYPE_8PSK = 2,
+    MTYPE_LAST = 2,
+    PLTS_ON = 1,
+    PLTS_LAST = 2,
+    RO_035 = 1,
+    RO_LAST = 3,
+    FEC_78 = 5, /* up to here a fec goes with dvbs */
+    FEC_LAST = 9
+};
+
+/* The ranges of the numbers in the attribute table, and of the client's port. */
+enum {
+    SRC_MOST = 4,
+    FREQ_LEAST = 1070000,
+    FREQ_MOST = 1275000,
+    SR_LEAST = 1000,
+    SR_MOST = 45000,
+    PORT_LEAST = 1024,
+    PORT_MOST = 65534
+};
+
+/* What steps 1 to 9 read in a request. */
+struct reading {
+    bool numbered;              /* steps 1 and 2 passed: the answer carries cseq */
+    bool session_sent;          /* there is a Session header */
+    bool query;                 /* the URI has a query */
+    bool pids_given, pids_all;  /* pids is there; it is "all" */
+    enum method method;
+    uint32_t cseq;
+    uint32_t session;           /* the number sent; 0 if it is none */
+    uint32_t port;              /* a of a good Transport, else 0 */
+    uint32_t stream;            /* the stream named, else 0 */
+    uint32_t fe;                /* the frontend asked for, else 0 */
+    struct plain_values values; /* those given, the others 0 */
+    struct text pids, addpids, delpids; /* lists of good numbers, empty if there are none */
+    struct text host;           /* the URI's host */
+    struct text require;        /* the value of Require */
+};
+
+/* Reads a request for a box with F frontends: steps 1 to 9. 200 if they pass, else their status. */
+enum status plain_read(struct text request, uint32_t frontends, struct reading *reading);
+
+/* Takes the first number off a list of PIDs; false if it is no PID or a comma ends the list. */
+bool plain_take_pid(struct text *list, uint16_t *pid);
+
+/* Writes the answer and returns its length; the session, unused if there is none, is the one it tells of. */
+size_t plain_write_answer(uint8_t *bytes, enum status status, const struct reading *reading,
+                          const struct plain_session *session);
+
+#endif
