@@ -164,7 +164,7 @@ struct satbox_noted {
 /*
  * Makes a fresh box where box points: nothing open, clock, sequence and bytes held 0. What stood there is gone.
  * frontends is F, size is C.
- * Refusal: 6. Then the box is all zeros, which every other call refuses with 1.
+ * Refusal: 6. Then the box is as it was, byte for byte.
  * Owed: the bytes at box are initialized before the call, as those of a static struct are. Records not yet collected are stored before: a
  * fresh box holds no bytes and writes from the journal's start.
  */

@@ -98,7 +98,7 @@ _Static_assert(sizeof(struct plain_stream) == 104, "a stream has no padding");
 _Static_assert(sizeof(struct plain_box) == 1488, "a box has no padding");
 _Static_assert(sizeof(struct plain_record) == 16, "a record has its two bytes of padding only");
 
-/* Makes a fresh box. Refusal 6, and then the box is all zeros. */
+/* Makes a fresh box. Refusal 6, and then the box stays. */
 int plain_make(struct plain_box *box, uint32_t frontends, uint32_t size);
 
 /*

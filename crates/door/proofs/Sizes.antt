@@ -1,4 +1,4 @@
--- A number of frontends that needs more than sixteen bits is refused as 0 is. Assumes nothing.
+-- Making a box: a number of frontends that needs more than sixteen bits is refused as 0 is, and a refusal is no 0. Assumes nothing.
 use mathlib.Core.Path.{_≡_, refl, _∙_}
 use mathlib.Core.Bool.{cond, and-false}
 use Prim.Native.Nat.{ℕ}
@@ -8,6 +8,12 @@ use borrow.Author.Tests.{ltb-true, lt-leb}
 use Rattle.scan.proofs.Bools.{by-test}
 use Rattle.table.specs.Made.{madeOf}
 use Rattle.table.specs.declared.Made.{Made}
+use Rattle.table.specs.declared.SatBox.{SatBox}
+use Rattle.table.specs.declared.Refusal.the-variants.{Table, Journal, Answer, Buffer, Frontend, Sizes}
+use Rattle.table.specs.declared.Outcome.{Outcome}
+use Rattle.table.specs.declared.Outcome.the-variants.{Done, Refused}
+use Rattle.satbox.specs.Calls.{ifDone}
+use Rattle.door.specs.Turns.{numberIn}
 
 made-few : (frontends size : ℕ) → madeOf (cond (ltb 65535 frontends) 0 frontends) size ≡ madeOf frontends size
 unfolding madeOf
@@ -18,3 +24,17 @@ made-few frontends size =
 
 pub few-made : (frontends size : ℕ) {few : ℕ} {m : Made} → few ≡ cond (ltb 65535 frontends) 0 frontends → m ≡ madeOf few size → m ≡ madeOf frontends size
 few-made frontends size e q = q ∙ (rw e (made-few frontends size))
+
+-- what was done has the number 0, and no refusal has
+pub done-is : (o : Outcome) (u t : SatBox) → numberIn o ≡ 0 → ifDone o u t ≡ u
+done-is Done u t e = refl
+done-is (Refused Table) u t e = absurd (omega arith)
+done-is (Refused Journal) u t e = absurd (omega arith)
+done-is (Refused Answer) u t e = absurd (omega arith)
+done-is (Refused Buffer) u t e = absurd (omega arith)
+done-is (Refused Frontend) u t e = absurd (omega arith)
+done-is (Refused Sizes) u t e = absurd (omega arith)
+
+pub refused-is : (o : Outcome) (u t : SatBox) → (numberIn o ≡ 0 → ⊥) → ifDone o u t ≡ t
+refused-is Done u t e = absurd (e refl)
+refused-is (Refused refusal) u t e = refl

@@ -31,8 +31,9 @@ requested s clock address draw t b j = replied s clock address draw t b j .satbo
 abbrev pub madeNumber : ℕ → ℕ → ℕ
 madeNumber frontends size = numberIn (madeOf frontends size .outcome)
 
-abbrev pub made : ℕ → ℕ → SatBox
-made frontends size = madeOf frontends size .satbox
+-- "table, journal and every lent buffer stay": a box that is lent stays where making one is refused
+abbrev pub made : ℕ → ℕ → SatBox → SatBox
+made frontends size t = calls.ifDone (madeOf frontends size .outcome) (madeOf frontends size .satbox) t
 
 abbrev pub tickNumber : ℕ → SatBox → List ℕ → ℕ
 tickNumber clock t j = numberIn (calls.ticked clock t j .outcome)

@@ -15,10 +15,10 @@ ghost use Rattle.door.specs.Turns.{made, madeNumber, requested, requestR
 use journal::Record;
 use table::SatBox;
 
-// Makes a box where one lies.
+// Makes a fresh box of the one that is lent; where that is refused, it stays.
 #[no_mangle]
 pub extern "C" fn satbox_make(t: &mut SatBox, frontends: u32, size: u32) -> u32
-    ensures { λ r. ⌜ (r ≡ madeNumber frontends size) × (now (t .exit) ≡ made frontends size) ⌝ }
+    ensures { λ r. ⌜ (r ≡ madeNumber frontends size) × (now (t .exit) ≡ made frontends size (now (t .entry))) ⌝ }
 {
     let s = turns::make(*t, frontends, size);
     *t = s.satbox;

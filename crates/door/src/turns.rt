@@ -83,15 +83,16 @@ fn few(frontends: u32) -> u16
 }
 
 pub(crate) fn make(t: SatBox, frontends: u32, size: u32) -> Refusing
-    ensures { λ r. ⌜ (r .refusal ≡ madeNumber frontends size) × (r .satbox ≡ made frontends size) ⌝ }
+    ensures { λ r. ⌜ (r .refusal ≡ madeNumber frontends size) × (r .satbox ≡ made frontends size t) ⌝ }
 {
     let made = SatBox::fresh(few(frontends), size);
     let outcome = made.outcome;
     let u = made.satbox;
-    Refusing {
-        refusal: number_in(outcome),
-        satbox: u,
+    let refusal = number_in(outcome);
+    if refusal == 0 {
+        return Refusing { refusal, satbox: u };
     }
+    Refusing { refusal, satbox: t }
 }
 
 pub(crate) fn tick(t: SatBox, clock: u32, journal: &mut [u8]) -> Refusing
