@@ -226,10 +226,19 @@ static bool print_reached(void)
 {
     bool all = print_statuses();
     all &= print_refusals();
-    return all & print_rest();
+    all &= print_rest();
+    return all;
 }
 
 /* The two ways to run. */
+
+/* How many calls a sequence has, by its first one: few if no box was made. */
+static size_t sequence_length(void)
+{
+    if (plain.outcome.refusal != PLAIN_DONE)
+        return 1 + below(8);
+    return 1 + below(once_in(2) ? 64 : SEQUENCE);
+}
 
 static int compare(uint64_t seed, unsigned long wanted)
 {
@@ -240,7 +249,6 @@ static int compare(uint64_t seed, unsigned long wanted)
         if (count == length) {
             start_both();
             count = 0;
-            length = 1 + below(SEQUENCE);
             first_call(&calls[0]);
         } else {
             next_call(&calls[count], &plain.box);
@@ -249,6 +257,8 @@ static int compare(uint64_t seed, unsigned long wanted)
         if (!call_both(&calls[count - 1], false))
             return report(seed, made);
         count_reached(&calls[count - 1]);
+        if (count == 1)
+            length = sequence_length();
     }
     bool all = print_reached();
     printf("seed %" PRIu64 ": %lu calls, no difference\n", seed, wanted);

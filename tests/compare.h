@@ -1,7 +1,8 @@
 /*
  * What the files of the comparison share. The archive and the plain box get the same calls, and everything a call
  * gives or may change is compared: compare.c runs, shrinks and plays sequences of calls, compare_both.c makes one
- * call on both and compares, compare_calls.c chooses calls, compare_text.c writes the requests among them.
+ * call on both and compares, compare_calls.c chooses calls, compare_text.c writes the requests among them,
+ * compare_tables.c makes tables that no box made.
  */
 #ifndef COMPARE_H
 #define COMPARE_H
@@ -104,6 +105,15 @@ uint64_t below(uint64_t bound);
 /* True once in `of` times. */
 bool once_in(uint64_t of);
 
+/* One of the numbers of a list. */
+#define ANY_OF(...) any_of((const uint64_t[]){__VA_ARGS__}, sizeof((const uint64_t[]){__VA_ARGS__}) / sizeof(uint64_t))
+uint64_t any_of(const uint64_t *list, size_t count);
+
+uint32_t some_address(void);
+
+/* Makes it a call of this kind with these first two numbers, the rest 0, and no bytes. */
+void set_call(struct call *call, enum kind kind, uint64_t n0, uint64_t n1);
+
 /* Chooses the first call of a sequence, a box's making, and how the sequence will go. */
 void first_call(struct call *call);
 
@@ -117,5 +127,10 @@ enum errand { OPEN, JOIN, AGAIN, PLAY, ALIVE, LEAVE, ERRANDS };
 
 /* Writes a request of this errand for this table; `hostile` times in 16 it is damaged. */
 void write_request(struct call *call, const struct plain_box *box, enum errand errand, unsigned hostile);
+
+/* compare_tables.c */
+
+/* Chooses a change of this table by hand. */
+void choose_poke(struct call *call, const struct plain_box *box);
 
 #endif

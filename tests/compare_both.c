@@ -286,14 +286,15 @@ static bool same_table(bool tell)
 
 static bool same_outcome(const struct outcome *one, const struct outcome *other, bool tell)
 {
-    bool numbers = same_number("refusal", one->refusal, other->refusal, tell);
-    numbers &= same_number("count", one->count, other->count, tell);
-    numbers &= same_number("order's on", one->on, other->on, tell);
-    return numbers
-        & same_bytes("order", (const uint8_t *)&one->stream, (const uint8_t *)&other->stream, sizeof one->stream, tell)
-        & same_bytes("record read", (const uint8_t *)&one->record, (const uint8_t *)&other->record,
-                     sizeof one->record, tell)
-        & same_bytes("record written", one->bytes, other->bytes, sizeof one->bytes, tell);
+    bool same = same_number("refusal", one->refusal, other->refusal, tell);
+    same &= same_number("count", one->count, other->count, tell);
+    same &= same_number("order's on", one->on, other->on, tell);
+    same &= same_bytes("order", (const uint8_t *)&one->stream, (const uint8_t *)&other->stream,
+                       sizeof one->stream, tell);
+    same &= same_bytes("record read", (const uint8_t *)&one->record, (const uint8_t *)&other->record,
+                       sizeof one->record, tell);
+    same &= same_bytes("record written", one->bytes, other->bytes, sizeof one->bytes, tell);
+    return same;
 }
 
 /* Compares all that the call may have touched; the journal as far as it was ever lent. */
@@ -305,7 +306,8 @@ static bool same_sides(const struct call *call, bool tell)
     if (call->kind == COLLECT)
         same &= same_bytes("buffer", archive.buffer, plain.buffer, call->numbers[1] + GUARD, tell);
     same &= same_bytes("journal", archive.journal, plain.journal, journal_reach + GUARD, tell);
-    return same & same_table(tell);
+    same &= same_table(tell);
+    return same;
 }
 
 /* The call itself. */

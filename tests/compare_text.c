@@ -99,7 +99,7 @@ static void put_pid(void)
 {
     if (once_in(40))
         put(ANY("8191", "08191", "00000", "8190", "00001"));
-    else if (once_in(400))
+    else if (once_in(150))
         put(ANY("8192", "000001", "", "a", "65535", "99999", "-1"));
     else
         put_number(below(once_in(6) ? 8192 : 44));
@@ -183,7 +183,7 @@ static void put_pair(size_t name, bool old)
     if (once_in(SPOIL * 4))
         put(bad_value());
     else
-        put_value(name, old && !once_in(SPOIL));
+        put_value(name, old && !once_in(8));
 }
 
 /* Which names a query has: a bit for each. */
@@ -507,6 +507,8 @@ void write_request(struct call *call, const struct plain_box *box, enum errand e
     out = call;
     table = box;
     out->length = 0;
+    if (errand != OPEN && errand != ALIVE && some_session() == NULL && !once_in(6))
+        errand = OPEN;
     session = errand == OPEN || errand == JOIN || (errand == ALIVE && once_in(8)) ? NULL : some_session();
     if (once_in(400)) {
         put_rubbish();
