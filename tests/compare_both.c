@@ -2,8 +2,12 @@
  * Makes one call on both boxes, the archive's and the plain one, and compares everything: the refusal, the counts,
  * what came back, every lent buffer to a little past its end, and every byte of the table. Counts what was reached.
  */
+#define _POSIX_C_SOURCE 200809L
+
 #include "compare.h"
 
+#include <setjmp.h>
+#include <signal.h>
 #include <stdio.h>
 #include <string.h>
 
@@ -49,9 +53,27 @@ const size_t kind_numbers[KINDS] = {2, 5, 2, 2, 1, 2, 1, 7, 0, 1, 0};
 
 /* What buffers hold before a call: no byte like its neighbours. */
 static uint8_t pattern[JOURNAL_ROOM + GUARD];
-/* The longest journal lent since the start, and the bytes held and open sessions before the call. */
+/* The longest journal lent since the start, and the bytes held before the call. */
 static size_t journal_reach;
 static uint32_t held_before;
+
+/* A call that crashes comes back here, so that its sequence can be told like that of any difference. */
+static sigjmp_buf back;
+static const char *volatile under_way;
+
+static void crashed(int number)
+{
+    siglongjmp(back, number);
+}
+
+static void catch_crashes(void)
+{
+    signal(SIGSEGV, crashed);
+    signal(SIGBUS, crashed);
+    signal(SIGFPE, crashed);
+    signal(SIGILL, crashed);
+    signal(SIGABRT, crashed);
+}
 
 static void start(struct side *side)
 {
@@ -69,6 +91,7 @@ void start_both(void)
     start(&archive);
     start(&plain);
     journal_reach = 0;
+    catch_crashes();
 }
 
 /* The numbers of a call as the calls take them. */
@@ -76,6 +99,17 @@ void start_both(void)
 static uint32_t word(const struct call *call, size_t place)
 {
     return (uint32_t)call->numbers[place];
+}
+
+/* A buffer as it is lent: with length 0 there need be none. */
+static uint8_t *lent(uint8_t *bytes, uint64_t length)
+{
+    return length == 0 ? NULL : bytes;
+}
+
+static const uint8_t *request_of(const struct call *call)
+{
+    return call->length == 0 ? NULL : call->bytes;
 }
 
 static struct plain_record record_of(const struct call *call)
@@ -138,13 +172,16 @@ static void call_archive(struct side *side, const struct call *call)
     switch (call->kind) {
     case MAKE: outcome->refusal = satbox_make(&side->box, word(call, 0), word(call, 1)); break;
     case REQUEST:
-        keep_reply(outcome, satbox_request(&side->box, call->bytes, call->length, word(call, 0), word(call, 1),
-                                           word(call, 2), side->answer, n[3], side->journal, n[4]));
+        keep_reply(outcome, satbox_request(&side->box, request_of(call), call->length, word(call, 0), word(call, 1),
+                                           word(call, 2), lent(side->answer, n[3]), n[3],
+                                           lent(side->journal, n[4]), n[4]));
         break;
-    case TICK: outcome->refusal = satbox_tick(&side->box, word(call, 0), side->journal, n[1]); break;
-    case COLLECT: keep_reply(outcome, satbox_collect(&side->box, side->journal, n[0], side->buffer, n[1])); break;
+    case TICK: outcome->refusal = satbox_tick(&side->box, word(call, 0), lent(side->journal, n[1]), n[1]); break;
+    case COLLECT:
+        keep_reply(outcome, satbox_collect(&side->box, lent(side->journal, n[0]), n[0], lent(side->buffer, n[1]), n[1]));
+        break;
     case ORDER: keep_order(outcome, satbox_order(&side->box, word(call, 0))); break;
-    case READ: keep_found(outcome, satbox_read_record(side->journal, n[0], n[1])); break;
+    case READ: keep_found(outcome, satbox_read_record(lent(side->journal, n[0]), n[0], n[1])); break;
     case LOOK: keep_found(outcome, satbox_read_record(call->bytes, call->length, n[0])); break;
     case WRITE: keep_noted(outcome, satbox_write_record(record_of(call))); break;
     default: break;
@@ -157,8 +194,9 @@ static uint32_t plain_requested(struct side *side, const struct call *call)
 {
     const uint64_t *n = call->numbers;
     size_t count;
-    int refusal = plain_request(&side->box, call->bytes, call->length, word(call, 0), word(call, 1), word(call, 2),
-                                side->answer, n[3], &count, side->journal, n[4]);
+    int refusal = plain_request(&side->box, request_of(call), call->length, word(call, 0), word(call, 1),
+                                word(call, 2), lent(side->answer, n[3]), n[3], &count,
+                                lent(side->journal, n[4]), n[4]);
     side->outcome.count = (uint32_t)count;
     return (uint32_t)refusal;
 }
@@ -192,13 +230,15 @@ static void call_plain(struct side *side, const struct call *call)
     switch (call->kind) {
     case MAKE: outcome->refusal = (uint32_t)plain_make(&side->box, word(call, 0), word(call, 1)); break;
     case REQUEST: outcome->refusal = plain_requested(side, call); break;
-    case TICK: outcome->refusal = (uint32_t)plain_tick(&side->box, word(call, 0), side->journal, n[1]); break;
+    case TICK:
+        outcome->refusal = (uint32_t)plain_tick(&side->box, word(call, 0), lent(side->journal, n[1]), n[1]);
+        break;
     case COLLECT:
-        outcome->refusal = (uint32_t)plain_collect(&side->box, side->journal, n[0], side->buffer, n[1],
-                                                   &outcome->count);
+        outcome->refusal = (uint32_t)plain_collect(&side->box, lent(side->journal, n[0]), n[0],
+                                                   lent(side->buffer, n[1]), n[1], &outcome->count);
         break;
     case ORDER: outcome->refusal = plain_ordered(side, call); break;
-    case READ: outcome->refusal = plain_found(side, side->journal, n[0], n[1]); break;
+    case READ: outcome->refusal = plain_found(side, lent(side->journal, n[0]), n[0], n[1]); break;
     case LOOK: outcome->refusal = plain_found(side, call->bytes, call->length, n[0]); break;
     case WRITE: outcome->refusal = plain_written(side, call); break;
     default: break;
@@ -345,7 +385,15 @@ bool call_both(const struct call *call, bool tell)
     make_ready(&archive, call);
     make_ready(&plain, call);
     held_before = plain.box.held;
+    int number = sigsetjmp(back, 1);
+    if (number != 0) {
+        if (tell)
+            printf("difference: %s crashed, signal %d\n", under_way, number);
+        return false;
+    }
+    under_way = "archive";
     call_archive(&archive, call);
+    under_way = "plain";
     call_plain(&plain, call);
     return same_sides(call, tell);
 }

@@ -255,7 +255,7 @@ void next_call(struct call *call, const struct plain_box *box)
             choose_call(call, box);
         else
             set_call(call, RESTORE, 0, 0);
-    } else if (altered == 0 && once_in(10)) {
+    } else if (altered == 0 && once_in(7)) {
         set_call(call, SAVE, 0, 0);
         altered = SAVED;
     } else {

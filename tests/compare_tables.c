@@ -203,9 +203,11 @@ static void make_up_stream(struct plain_stream *stream, size_t frontend)
 static void make_up_session(struct plain_box *box, size_t place, size_t stream, bool owner)
 {
     struct plain_session *session = &box->sessions[place];
-    session->number = once_in(4) ? UINT32_MAX - (uint32_t)place : once_in(3) ? 1 + (uint32_t)place : (uint32_t)chance() | 64;
+    uint32_t age = once_in(3) ? 0 : (uint32_t)below(90);
+    session->number = once_in(4) ? UINT32_MAX - (uint32_t)place
+                    : once_in(3) ? 1 + (uint32_t)place : (uint32_t)chance() | 64;
     session->address = some_address();
-    session->last = once_in(3) ? box->clock : box->clock - (uint32_t)below((uint64_t)box->clock + 1 < 90 ? box->clock : 90);
+    session->last = age > box->clock ? 0 : box->clock - age;
     session->port = 1024 + 2 * (uint32_t)below(32256);
     session->stream = (uint8_t)(stream + 1);
     session->owner = owner;

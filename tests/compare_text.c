@@ -86,8 +86,8 @@ static const char *bad_value(void)
 static void put_freq(void)
 {
     if (once_in(SPOIL))
-        put(ANY("10699", "10699.99", "12750.01", "12750.1", "12751", "12750.", "011538", "1153", "11538.123", "11538,5",
-                "11538.5a", "1153a", "99999.99", "00000", ".5", "11538.-1"));
+        put(ANY("10699", "10699.99", "12750.01", "12750.1", "12751", "12750.", "011538", "1153", "11538.123",
+                "11538.005", "11538,5", "11538.5a", "1153a", "99999.99", "00000", ".5", "11538.-1"));
     else if (once_in(4))
         put(ANY("10700", "12750", "10700.0", "10700.00", "12750.0", "12750.00", "11538.5", "11538.05", "12749.99"));
     else
@@ -429,9 +429,21 @@ static void put_long_header(void)
 
 /* The request. */
 
+/* A request line of fewer or more parts than three, or with an empty one. */
+static void put_odd_line(void)
+{
+    put(ANY("OPTIONS", "OPTIONS rtsp://h/", "OPTIONS  RTSP/1.0", " rtsp://h/ RTSP/1.0", "OPTIONS rtsp://h/ ", "  ", " ",
+            "OPTIONS rtsp://h/ RTSP/1.0 x", "OPTIONS  rtsp://h/ RTSP/1.0", " OPTIONS rtsp://h/ RTSP/1.0", ""));
+    put("\r\n");
+}
+
 static void put_request_line(enum errand errand, const struct plain_session *session)
 {
     static const char *const methods[ERRANDS] = {"SETUP", "SETUP", "SETUP", "PLAY", "OPTIONS", "TEARDOWN"};
+    if (once_in(SPOIL * 6)) {
+        put_odd_line();
+        return;
+    }
     if (once_in(SPOIL * 2))
         put(ANY("DESCRIBE", "setup", "GET", "OPTION", "PLAYS", "TEARDOWNX", "PAUSE", "", "S", "PLAY "));
     else
@@ -490,11 +502,13 @@ static void damage(void)
     }
 }
 
-/* Bytes altogether of chance. */
+/* Bytes altogether of chance, or none. */
 static void put_rubbish(void)
 {
     size_t count = below(once_in(8) ? CALL_BYTES : 40);
     bool printable = once_in(2);
+    if (once_in(4))
+        return;
     while (out->length < count)
         put_byte((uint8_t)(printable ? 32 + below(95) : below(256)));
     if (once_in(2))
