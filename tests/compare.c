@@ -245,7 +245,7 @@ static int compare(uint64_t seed, unsigned long wanted)
     size_t length = 0;
     seed_chance(seed);
     count = 0;
-    for (unsigned long made = 1; made <= wanted; made++) {
+    for (unsigned long made = 0; made < wanted; made += calls[count - 1].kind < SAVE) {
         if (count == length) {
             start_both();
             count = 0;
@@ -255,7 +255,7 @@ static int compare(uint64_t seed, unsigned long wanted)
         }
         count++;
         if (!call_both(&calls[count - 1], false))
-            return report(seed, made);
+            return report(seed, made + 1);
         count_reached(&calls[count - 1]);
         if (count == 1)
             length = sequence_length();

@@ -194,6 +194,18 @@ static void choose_look(struct call *call)
     call->length = places * PLAIN_RECORD_BYTES - (once_in(16) ? 1 + below(15) : 0);
 }
 
+/* The making of a box; F and C are each out of range once in `odd` times. */
+static void choose_make(struct call *call, uint64_t odd)
+{
+    uint64_t frontends = 1 + below(8);
+    uint64_t size = once_in(3) ? 1024 + 16 * below(33) : once_in(20) ? 65536 - 16 * below(2) : 1024;
+    if (once_in(odd))
+        frontends = ANY_OF(0, 9, 255, 256, 257, 65536, 65537, UINT32_MAX);
+    if (once_in(odd))
+        size = ANY_OF(0, 16, 1008, 1023, 1025, 1032, 1040, 65535, 65537, 65552, 131072, 0x80000400, UINT32_MAX);
+    set_call(call, MAKE, frontends, size);
+}
+
 static void choose_call(struct call *call, const struct plain_box *box)
 {
     uint64_t at = below(100);
@@ -210,6 +222,8 @@ static void choose_call(struct call *call, const struct plain_box *box)
         choose_read(call, box);
     else if (at < 97)
         choose_look(call);
+    else if (once_in(10))
+        choose_make(call, 2);
     else
         choose_write(call);
 }
@@ -226,13 +240,7 @@ static bool taken(const struct plain_box *box)
 
 void first_call(struct call *call)
 {
-    uint64_t frontends = 1 + below(8);
-    uint64_t size = once_in(3) ? 1024 + 16 * below(33) : once_in(20) ? 65536 - 16 * below(2) : 1024;
-    if (once_in(12))
-        frontends = ANY_OF(0, 9, 255, 256, 257, 65536, 65537, UINT32_MAX);
-    if (once_in(12))
-        size = ANY_OF(0, 16, 1008, 1023, 1025, 1032, 1040, 65535, 65537, 65552, 131072, 0x80000400, UINT32_MAX);
-    set_call(call, MAKE, frontends, size);
+    choose_make(call, 12);
     mood = (enum mood)below(MOODS);
     altered = 0;
     late = once_in(12);
