@@ -1,0 +1,306 @@
+/*
+ * Compares the archive with the plain box: `compare SEED CALLS` makes that many calls of chance on both, in
+ * sequences that each start with a fresh box, and compares everything after each. A difference ends the run; its
+ * sequence is made as short as it can be and printed, and `compare --play FILE` makes the calls of such a text
+ * again. At the end it says what was reached. Ends with 1 on a difference, and with 2 if 100,000 calls or more
+ * left a status or a refusal out.
+ */
+#include "compare.h"
+
+#include <inttypes.h>
+#include <stdio.h>
+#include <stdlib.h>
+#include <string.h>
+
+/* The calls since the last fresh box. */
+static struct call calls[SEQUENCE];
+static size_t count;
+
+/* The text of a call: its kind, its numbers, and its bytes in quotes. */
+
+static void print_bytes(const struct call *call)
+{
+    printf(" \"");
+    for (size_t i = 0; i < call->length; i++) {
+        uint8_t byte = call->bytes[i];
+        if (byte == '\r')
+            printf("\\r");
+        else if (byte == '\n')
+            printf("\\n");
+        else if (byte < 32 || byte > 126 || byte == '"' || byte == '\\')
+            printf("\\x%02X", byte);
+        else
+            putchar(byte);
+    }
+    putchar('"');
+}
+
+static void print_call(const struct call *call)
+{
+    printf("%s", kind_names[call->kind]);
+    for (size_t i = 0; i < kind_numbers[call->kind]; i++)
+        printf(" %" PRIu64, call->numbers[i]);
+    if (call->kind == REQUEST || call->kind == LOOK || call->kind == POKE)
+        print_bytes(call);
+    putchar('\n');
+}
+
+/* Reads the bytes in quotes, written as print_bytes does. */
+static bool read_bytes(const char *text, struct call *call)
+{
+    call->length = 0;
+    while (*text != '"') {
+        unsigned byte = (unsigned char)*text++;
+        if (byte == '\0' || call->length == CALL_BYTES)
+            return false;
+        if (byte == '\\') {
+            char escape = *text++;
+            if (escape == 'x' && sscanf(text, "%2x", &byte) == 1)
+                text += 2;
+            else if (escape == 'r' || escape == 'n')
+                byte = escape == 'r' ? '\r' : '\n';
+            else
+                return false;
+        }
+        call->bytes[call->length++] = (uint8_t)byte;
+    }
+    return true;
+}
+
+/* Would the call reach past the room there is? Only a text written by hand can. */
+static bool fits(const struct call *call)
+{
+    const uint64_t *n = call->numbers;
+    switch (call->kind) {
+    case REQUEST: return n[3] <= ANSWER_ROOM && n[4] <= JOURNAL_ROOM;
+    case TICK: return n[1] <= JOURNAL_ROOM;
+    case COLLECT: return n[0] <= JOURNAL_ROOM && n[1] <= JOURNAL_ROOM;
+    case READ: return n[0] <= JOURNAL_ROOM;
+    case POKE: return n[0] <= sizeof(struct plain_box) && call->length <= sizeof(struct plain_box) - n[0];
+    default: return true;
+    }
+}
+
+static bool read_call(const char *line, struct call *call)
+{
+    size_t kind = 0, name = strcspn(line, " \n");
+    const char *quote = strchr(line, '"');
+    char *end = (char *)(uintptr_t)(line + name);
+    while (kind < KINDS && (strlen(kind_names[kind]) != name || strncmp(kind_names[kind], line, name) != 0))
+        kind++;
+    if (kind == KINDS)
+        return false;
+    call->kind = (enum kind)kind;
+    call->length = 0;
+    for (size_t i = 0; i < kind_numbers[kind]; i++)
+        call->numbers[i] = strtoull(end, &end, 10);
+    return (quote == NULL || read_bytes(quote + 1, call)) && fits(call);
+}
+
+/* Running a sequence again, and making it short. */
+
+/* Makes the calls from the start; true if a difference is met, and then the calls after it are dropped. */
+static bool differs(bool tell)
+{
+    start_both();
+    for (size_t i = 0; i < count; i++)
+        if (!call_both(&calls[i], tell)) {
+            count = i + 1;
+            return true;
+        }
+    return false;
+}
+
+/* Drops `length` calls at a place if a difference stays without them; the first call, the making, stays. */
+static bool drop(size_t place, size_t length)
+{
+    static struct call before[SEQUENCE];
+    size_t old = count;
+    memcpy(before, calls, old * sizeof *calls);
+    memmove(calls + place, calls + place + length, (old - place - length) * sizeof *calls);
+    count = old - length;
+    if (differs(false))
+        return true;
+    memcpy(calls, before, old * sizeof *calls);
+    count = old;
+    return false;
+}
+
+static void shrink(void)
+{
+    bool shorter = true;
+    while (shorter) {
+        shorter = false;
+        for (size_t length = count / 2; length > 0; length /= 2)
+            for (size_t place = 1; place + length <= count;)
+                if (drop(place, length))
+                    shorter = true;
+                else
+                    place += length;
+    }
+}
+
+/* Says the difference that the calls so far end in. */
+static int report(uint64_t seed, unsigned long made)
+{
+    printf("seed %" PRIu64 ", call %lu:\n", seed, made);
+    differs(true);
+    shrink();
+    printf("made short, the table and the calls are (play again: compare --play FILE):\n");
+    for (size_t i = 0; i < count; i++)
+        print_call(&calls[i]);
+    differs(true);
+    return 1;
+}
+
+/* What was reached. */
+
+static const unsigned statuses[] = {200, 400, 403, 404, 405, 414, 454, 455, 461, 501, 503, 505, 551};
+
+/* The refusals of document 01's table, a bit for each, by kind of call; the first bit is "done". */
+static const unsigned refusals[KINDS] = {
+    [MAKE] = 0x41, [REQUEST] = 0x0F, [TICK] = 0x07, [COLLECT] = 0x17, [ORDER] = 0x23, [READ] = 0x181, [LOOK] = 0x181,
+    [WRITE] = 0x101
+};
+
+static bool print_statuses(void)
+{
+    bool all = reached.unnumbered > 0;
+    printf("%-8s %10s %10s %10s %10s %10s\n", "status", "OPTIONS", "SETUP", "PLAY", "TEARDOWN", "other");
+    for (size_t i = 0; i < sizeof statuses / sizeof *statuses; i++) {
+        unsigned long sum = 0;
+        printf("%-8u", statuses[i]);
+        for (size_t method = 0; method < METHODS; method++) {
+            printf(" %10lu", reached.statuses[statuses[i]][method]);
+            sum += reached.statuses[statuses[i]][method];
+        }
+        printf("%s\n", sum == 0 ? "  NOT REACHED" : "");
+        all &= sum > 0;
+    }
+    printf("400 without CSeq: %lu\n", reached.unnumbered);
+    return all;
+}
+
+static bool print_refusals(void)
+{
+    bool all = true;
+    printf("%-8s %9s", "call", "done");
+    for (int refusal = 1; refusal < REFUSALS; refusal++)
+        printf(" %8d", refusal);
+    putchar('\n');
+    for (size_t kind = 0; kind < SAVE; kind++) {
+        bool whole = true;
+        printf("%-8s %9lu", kind_names[kind], reached.calls[kind][0]);
+        for (size_t refusal = 1; refusal < REFUSALS; refusal++)
+            printf(" %8lu", reached.calls[kind][refusal]);
+        for (size_t refusal = 0; refusal < REFUSALS; refusal++)
+            whole &= (refusals[kind] >> refusal & 1) == (reached.calls[kind][refusal] > 0);
+        printf("%s\n", whole ? "" : "  NOT AS IN THE PAPER");
+        all &= whole;
+    }
+    return all;
+}
+
+static bool print_rest(void)
+{
+    const struct {
+        const char *name;
+        unsigned long times;
+    } rows[] = {
+        {"opened as owner", reached.opened}, {"joined", reached.joined}, {"closed by teardown", reached.closed[1]},
+        {"closed by time-out", reached.closed[2]}, {"closed with the owner", reached.closed[3]},
+        {"calls with a cascade", reached.cascades}, {"journals filled to the last byte", reached.full_journals},
+        {"503 with no room in the journal", reached.no_room}, {"503 with 32 sessions", reached.no_place},
+        {"openings past a number taken or 0", reached.number_taken}, {"orders on", reached.orders_on},
+        {"tables changed by hand and taken", reached.tables_good}, {"and refused", reached.tables_bad}
+    };
+    bool all = true;
+    for (size_t i = 0; i < sizeof rows / sizeof *rows; i++) {
+        printf("%-34s %10lu%s\n", rows[i].name, rows[i].times, rows[i].times == 0 ? "  NOT REACHED" : "");
+        all &= rows[i].times > 0;
+    }
+    return all;
+}
+
+static bool print_reached(void)
+{
+    bool all = print_statuses();
+    all &= print_refusals();
+    all &= print_rest();
+    return all;
+}
+
+/* The two ways to run. */
+
+/* How many calls a sequence has, by its first one: few if no box was made. */
+static size_t sequence_length(void)
+{
+    if (plain.outcome.refusal != PLAIN_DONE)
+        return 1 + below(8);
+    return 1 + below(once_in(2) ? 64 : SEQUENCE);
+}
+
+static int compare(uint64_t seed, unsigned long wanted)
+{
+    size_t length = 0;
+    seed_chance(seed);
+    count = 0;
+    for (unsigned long made = 0; made < wanted; made += calls[count - 1].kind < SAVE) {
+        if (count == length) {
+            start_both();
+            count = 0;
+            first_call(&calls[0]);
+        } else {
+            next_call(&calls[count], &plain.box);
+        }
+        count++;
+        if (!call_both(&calls[count - 1], false))
+            return report(seed, made + 1);
+        count_reached(&calls[count - 1]);
+        if (count == 1)
+            length = sequence_length();
+    }
+    bool all = print_reached();
+    printf("seed %" PRIu64 ": %lu calls, no difference\n", seed, wanted);
+    if (!all && wanted >= 100000)
+        printf("but not all was reached\n");
+    return all || wanted < 100000 ? 0 : 2;
+}
+
+static int play(const char *name)
+{
+    static char line[5 * CALL_BYTES];
+    FILE *file = fopen(name, "r");
+    if (file == NULL) {
+        perror(name);
+        return 2;
+    }
+    start_both();
+    for (int number = 1; fgets(line, sizeof line, file) != NULL; number++) {
+        if (!read_call(line, &calls[0])) {
+            printf("%s:%d: no call\n", name, number);
+            return 2;
+        }
+        bool same = call_both(&calls[0], true);
+        printf("%d %s: refusal %lu, count %lu", number, kind_names[calls[0].kind],
+               (unsigned long)plain.outcome.refusal, (unsigned long)plain.outcome.count);
+        if (calls[0].kind == REQUEST && plain.outcome.refusal == PLAIN_DONE)
+            printf(", %.12s", (const char *)plain.answer);
+        printf("\n");
+        if (!same)
+            return 1;
+    }
+    fclose(file);
+    printf("no difference\n");
+    return 0;
+}
+
+int main(int argc, char **argv)
+{
+    if (argc == 3 && strcmp(argv[1], "--play") == 0)
+        return play(argv[2]);
+    if (argc == 3)
+        return compare(strtoull(argv[1], NULL, 10), strtoul(argv[2], NULL, 10));
+    fprintf(stderr, "usage: compare SEED CALLS\n       compare --play FILE\n");
+    return 2;
+}

@@ -1,0 +1,136 @@
+/*
+ * What the files of the comparison share. The archive and the plain box get the same calls, and everything a call
+ * gives or may change is compared: compare.c runs, shrinks and plays sequences of calls, compare_both.c makes one
+ * call on both and compares, compare_calls.c chooses calls, compare_text.c writes the requests among them,
+ * compare_tables.c makes tables that no box made.
+ */
+#ifndef COMPARE_H
+#define COMPARE_H
+
+#include <stdbool.h>
+#include "plain.h"
+
+enum {
+    GUARD = 64,                                 /* bytes past a lent length that are compared too */
+    CALL_BYTES = 2176,                          /* most bytes in a call: requests past 2,048, a whole table */
+    CALL_NUMBERS = 7,                           /* most numbers in a call */
+    SEQUENCE = 512,                             /* most calls from one fresh box */
+    JOURNAL_ROOM = PLAIN_JOURNAL_MOST + GUARD,  /* longest journal or collecting buffer lent */
+    ANSWER_ROOM = PLAIN_ANSWER_BYTES + GUARD    /* longest answer buffer lent */
+};
+
+/* A call, or a change of the table by hand. The numbers of each kind, in their order, stand beside it. */
+enum kind {
+    MAKE,     /* frontends, size */
+    REQUEST,  /* clock, address, draw, answer's length, journal's length; the request's bytes */
+    TICK,     /* clock, journal's length */
+    COLLECT,  /* journal's length, buffer's length */
+    ORDER,    /* frontend */
+    READ,     /* length, place: of the journal's own bytes */
+    LOOK,     /* place: of the bytes of the call */
+    WRITE,    /* kind, cause, clock, session, stream, frontend, sequence */
+    SAVE,     /* puts the table aside */
+    POKE,     /* offset: the bytes of the call are put over the table's from there */
+    RESTORE,  /* takes the table put aside */
+    KINDS
+};
+
+struct call {
+    enum kind kind;
+    uint64_t numbers[CALL_NUMBERS];
+    size_t length;
+    uint8_t bytes[CALL_BYTES];
+};
+
+/* What a call gave; what it does not give is zeros. */
+struct outcome {
+    uint32_t refusal, count, on;
+    struct plain_stream stream;
+    struct plain_record record;
+    uint8_t bytes[PLAIN_RECORD_BYTES];
+};
+
+/* One of the two boxes, with all that is lent to it. */
+struct side {
+    struct plain_box box, saved;
+    struct outcome outcome;
+    uint8_t journal[JOURNAL_ROOM + GUARD];
+    uint8_t answer[ANSWER_ROOM + GUARD];
+    uint8_t buffer[JOURNAL_ROOM + GUARD];
+};
+
+/* How often what was reached. A status is counted at its number; methods in the order of compare_both.c. */
+enum { METHODS = 5, STATUSES = 600, REFUSALS = 9 };
+
+struct reached {
+    unsigned long calls[KINDS][REFUSALS];     /* by kind and refusal, 0 if done */
+    unsigned long statuses[STATUSES][METHODS];
+    unsigned long unnumbered;                 /* 400 without CSeq */
+    unsigned long opened, joined;             /* records of kinds 1 and 2 */
+    unsigned long closed[4];                  /* records of kind 3, by cause */
+    unsigned long cascades;                   /* calls that wrote a record with cause 3 */
+    unsigned long full_journals;              /* calls that left C bytes held */
+    unsigned long no_room;                    /* 503 with a place free and no room in the journal */
+    unsigned long no_place;                   /* 503 with 32 sessions open */
+    unsigned long number_taken;               /* openings whose number is not the draw */
+    unsigned long orders_on;
+    unsigned long tables_good, tables_bad;    /* changed by hand, and taken or refused by the next call */
+};
+
+/* compare_both.c */
+
+extern struct side archive, plain;
+extern struct reached reached;
+
+/* The name of a kind in a sequence's text, and how many numbers follow it. */
+extern const char *const kind_names[KINDS];
+extern const size_t kind_numbers[KINDS];
+
+/* Puts both sides into one and the same state, before any box is made. */
+void start_both(void);
+
+/* Makes the call on both sides. True if all is the same after it; else says the difference if `tell`. */
+bool call_both(const struct call *call, bool tell);
+
+/* Counts what the call that was made last reached. */
+void count_reached(const struct call *call);
+
+/* compare_calls.c */
+
+/* Starts the numbers of chance; and the next one, or one below a bound. */
+void seed_chance(uint64_t seed);
+uint64_t chance(void);
+uint64_t below(uint64_t bound);
+
+/* True once in `of` times. */
+bool once_in(uint64_t of);
+
+/* One of the numbers of a list. */
+#define ANY_OF(...) any_of((const uint64_t[]){__VA_ARGS__}, sizeof((const uint64_t[]){__VA_ARGS__}) / sizeof(uint64_t))
+uint64_t any_of(const uint64_t *list, size_t count);
+
+uint32_t some_address(void);
+
+/* Makes it a call of this kind with these first two numbers, the rest 0, and no bytes. */
+void set_call(struct call *call, enum kind kind, uint64_t n0, uint64_t n1);
+
+/* Chooses the first call of a sequence, a box's making, and how the sequence will go. */
+void first_call(struct call *call);
+
+/* Chooses the next call for this table. */
+void next_call(struct call *call, const struct plain_box *box);
+
+/* compare_text.c */
+
+/* What a request is mostly about. */
+enum errand { OPEN, JOIN, AGAIN, PLAY, ALIVE, LEAVE, ERRANDS };
+
+/* Writes a request of this errand for this table; `hostile` times in 16 it is damaged. */
+void write_request(struct call *call, const struct plain_box *box, enum errand errand, unsigned hostile);
+
+/* compare_tables.c */
+
+/* Chooses a change of this table by hand. */
+void choose_poke(struct call *call, const struct plain_box *box);
+
+#endif

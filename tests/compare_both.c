@@ -1,0 +1,475 @@
+/*
+ * Makes one call on both boxes, the archive's and the plain one, and compares everything: the refusal, the counts,
+ * what came back, every lent buffer to a little past its end, and every byte of the table. Counts what was reached.
+ */
+#define _POSIX_C_SOURCE 200809L
+
+#include "compare.h"
+
+#include <setjmp.h>
+#include <signal.h>
+#include <stdio.h>
+#include <string.h>
+
+/* What the archive exports. Its structs are laid out as those of the plain box. */
+
+struct satbox_reply {
+    uint32_t refusal, count;
+};
+
+struct satbox_order {
+    uint32_t refusal, on;
+    struct plain_stream stream;
+};
+
+struct satbox_found {
+    uint32_t refusal;
+    struct plain_record entry;
+};
+
+struct satbox_noted {
+    uint32_t refusal;
+    uint8_t bytes[PLAIN_RECORD_BYTES];
+};
+
+uint32_t satbox_make(struct plain_box *box, uint32_t frontends, uint32_t size);
+struct satbox_reply satbox_request(struct plain_box *box, const uint8_t *request, size_t length, uint32_t clock,
+                                   uint32_t address, uint32_t draw, uint8_t *answer, size_t answer_length,
+                                   uint8_t *journal, size_t journal_length);
+uint32_t satbox_tick(struct plain_box *box, uint32_t clock, uint8_t *journal, size_t journal_length);
+struct satbox_reply satbox_collect(struct plain_box *box, const uint8_t *journal, size_t journal_length,
+                                   uint8_t *buffer, size_t buffer_length);
+struct satbox_order satbox_order(struct plain_box *box, uint32_t frontend);
+struct satbox_found satbox_read_record(const uint8_t *bytes, size_t length, size_t place);
+struct satbox_noted satbox_write_record(struct plain_record entry);
+
+struct side archive, plain;
+struct reached reached;
+
+const char *const kind_names[KINDS] = {
+    "make", "request", "tick", "collect", "order", "read", "look", "write", "save", "poke", "restore"
+};
+const size_t kind_numbers[KINDS] = {2, 5, 2, 2, 1, 2, 1, 7, 0, 1, 0};
+
+/* What buffers hold before a call: no byte like its neighbours. */
+static uint8_t pattern[JOURNAL_ROOM + GUARD];
+/* The longest journal lent since the start, and the bytes held before the call. */
+static size_t journal_reach;
+static uint32_t held_before;
+
+/* A call that crashes comes back here, so that its sequence can be told like that of any difference. */
+static sigjmp_buf back;
+static const char *volatile under_way;
+
+static void crashed(int number)
+{
+    siglongjmp(back, number);
+}
+
+static void catch_crashes(void)
+{
+    signal(SIGSEGV, crashed);
+    signal(SIGBUS, crashed);
+    signal(SIGFPE, crashed);
+    signal(SIGILL, crashed);
+    signal(SIGABRT, crashed);
+}
+
+static void start(struct side *side)
+{
+    memset(&side->box, 0xA5, sizeof side->box);
+    memset(&side->saved, 0, sizeof side->saved);
+    memcpy(side->journal, pattern, sizeof side->journal);
+    memcpy(side->answer, pattern, sizeof side->answer);
+    memcpy(side->buffer, pattern, sizeof side->buffer);
+}
+
+void start_both(void)
+{
+    for (size_t i = 0; i < sizeof pattern; i++)
+        pattern[i] = (uint8_t)(0xA5 + 7 * i);
+    start(&archive);
+    start(&plain);
+    journal_reach = 0;
+    catch_crashes();
+}
+
+/* The numbers of a call as the calls take them. */
+
+static uint32_t word(const struct call *call, size_t place)
+{
+    return (uint32_t)call->numbers[place];
+}
+
+/* A buffer as it is lent: with length 0 there need be none. */
+static uint8_t *lent(uint8_t *bytes, uint64_t length)
+{
+    return length == 0 ? NULL : bytes;
+}
+
+static const uint8_t *request_of(const struct call *call)
+{
+    return call->length == 0 ? NULL : call->bytes;
+}
+
+static struct plain_record record_of(const struct call *call)
+{
+    struct plain_record record;
+    memset(&record, 0, sizeof record);
+    record.kind = (uint8_t)call->numbers[0];
+    record.cause = (uint8_t)call->numbers[1];
+    record.clock = (uint32_t)call->numbers[2];
+    record.session = (uint32_t)call->numbers[3];
+    record.stream = (uint8_t)call->numbers[4];
+    record.frontend = (uint8_t)call->numbers[5];
+    record.sequence = (uint16_t)call->numbers[6];
+    return record;
+}
+
+/* Copies the fields of a record and not the two bytes between them. */
+static void keep_record(struct plain_record *kept, const struct plain_record *record)
+{
+    kept->kind = record->kind;
+    kept->cause = record->cause;
+    kept->clock = record->clock;
+    kept->session = record->session;
+    kept->stream = record->stream;
+    kept->frontend = record->frontend;
+    kept->sequence = record->sequence;
+}
+
+/* The archive's calls. */
+
+static void keep_reply(struct outcome *outcome, struct satbox_reply reply)
+{
+    outcome->refusal = reply.refusal;
+    outcome->count = reply.count;
+}
+
+static void keep_found(struct outcome *outcome, struct satbox_found found)
+{
+    outcome->refusal = found.refusal;
+    keep_record(&outcome->record, &found.entry);
+}
+
+static void keep_order(struct outcome *outcome, struct satbox_order order)
+{
+    outcome->refusal = order.refusal;
+    outcome->on = order.on;
+    outcome->stream = order.stream;
+}
+
+static void keep_noted(struct outcome *outcome, struct satbox_noted noted)
+{
+    outcome->refusal = noted.refusal;
+    memcpy(outcome->bytes, noted.bytes, sizeof outcome->bytes);
+}
+
+static void call_archive(struct side *side, const struct call *call)
+{
+    struct outcome *outcome = &side->outcome;
+    const uint64_t *n = call->numbers;
+    switch (call->kind) {
+    case MAKE: outcome->refusal = satbox_make(&side->box, word(call, 0), word(call, 1)); break;
+    case REQUEST:
+        keep_reply(outcome, satbox_request(&side->box, request_of(call), call->length, word(call, 0), word(call, 1),
+                                           word(call, 2), lent(side->answer, n[3]), n[3],
+                                           lent(side->journal, n[4]), n[4]));
+        break;
+    case TICK: outcome->refusal = satbox_tick(&side->box, word(call, 0), lent(side->journal, n[1]), n[1]); break;
+    case COLLECT:
+        keep_reply(outcome, satbox_collect(&side->box, lent(side->journal, n[0]), n[0], lent(side->buffer, n[1]), n[1]));
+        break;
+    case ORDER: keep_order(outcome, satbox_order(&side->box, word(call, 0))); break;
+    case READ: keep_found(outcome, satbox_read_record(lent(side->journal, n[0]), n[0], n[1])); break;
+    case LOOK: keep_found(outcome, satbox_read_record(call->bytes, call->length, n[0])); break;
+    case WRITE: keep_noted(outcome, satbox_write_record(record_of(call))); break;
+    default: break;
+    }
+}
+
+/* The plain box's calls. */
+
+static uint32_t plain_requested(struct side *side, const struct call *call)
+{
+    const uint64_t *n = call->numbers;
+    size_t count;
+    int refusal = plain_request(&side->box, request_of(call), call->length, word(call, 0), word(call, 1),
+                                word(call, 2), lent(side->answer, n[3]), n[3], &count,
+                                lent(side->journal, n[4]), n[4]);
+    side->outcome.count = (uint32_t)count;
+    return (uint32_t)refusal;
+}
+
+static uint32_t plain_ordered(struct side *side, const struct call *call)
+{
+    int on;
+    int refusal = plain_order(&side->box, word(call, 0), &side->outcome.stream, &on);
+    side->outcome.on = (uint32_t)on;
+    return (uint32_t)refusal;
+}
+
+static uint32_t plain_found(struct side *side, const uint8_t *bytes, size_t length, size_t place)
+{
+    struct plain_record record;
+    int refusal = plain_read_record(bytes, length, place, &record);
+    keep_record(&side->outcome.record, &record);
+    return (uint32_t)refusal;
+}
+
+static uint32_t plain_written(struct side *side, const struct call *call)
+{
+    struct plain_record record = record_of(call);
+    return (uint32_t)plain_write_record(&record, side->outcome.bytes);
+}
+
+static void call_plain(struct side *side, const struct call *call)
+{
+    struct outcome *outcome = &side->outcome;
+    const uint64_t *n = call->numbers;
+    switch (call->kind) {
+    case MAKE: outcome->refusal = (uint32_t)plain_make(&side->box, word(call, 0), word(call, 1)); break;
+    case REQUEST: outcome->refusal = plain_requested(side, call); break;
+    case TICK:
+        outcome->refusal = (uint32_t)plain_tick(&side->box, word(call, 0), lent(side->journal, n[1]), n[1]);
+        break;
+    case COLLECT:
+        outcome->refusal = (uint32_t)plain_collect(&side->box, lent(side->journal, n[0]), n[0],
+                                                   lent(side->buffer, n[1]), n[1], &outcome->count);
+        break;
+    case ORDER: outcome->refusal = plain_ordered(side, call); break;
+    case READ: outcome->refusal = plain_found(side, lent(side->journal, n[0]), n[0], n[1]); break;
+    case LOOK: outcome->refusal = plain_found(side, call->bytes, call->length, n[0]); break;
+    case WRITE: outcome->refusal = plain_written(side, call); break;
+    default: break;
+    }
+}
+
+/* Comparing. */
+
+/* The first byte that differs; `length` if none does. */
+static size_t first_difference(const void *one, const void *other, size_t length)
+{
+    const uint8_t *a = one, *b = other;
+    size_t i = 0;
+    while (i < length && a[i] == b[i])
+        i++;
+    return i;
+}
+
+static bool same_bytes(const char *name, const uint8_t *one, const uint8_t *other, size_t length, bool tell)
+{
+    if (memcmp(one, other, length) == 0)
+        return true;
+    size_t at = first_difference(one, other, length);
+    if (tell)
+        printf("difference: %s, byte %zu: archive %02X, plain %02X\n", name, at, one[at], other[at]);
+    return false;
+}
+
+static bool same_number(const char *name, uint32_t one, uint32_t other, bool tell)
+{
+    if (one != other && tell)
+        printf("difference: %s: archive %lu, plain %lu\n", name, (unsigned long)one, (unsigned long)other);
+    return one == other;
+}
+
+/* The name of a session's or stream's field by its offset there. */
+static const char *session_field(size_t offset)
+{
+    static const char *const names[] = {"number", "address", "last", "port"};
+    if (offset < 16)
+        return names[offset / 4];
+    return offset == 16 ? "stream" : offset == 17 ? "owner" : "playing";
+}
+
+static const char *stream_field(size_t offset)
+{
+    static const char *const names[] = {"src", "freq", "pol", "msys", "mtype", "plts", "ro", "sr", "fec"};
+    if (offset < 64)
+        return "pids";
+    if (offset < 100)
+        return names[(offset - 64) / 4];
+    return offset < 102 ? "count" : offset == 102 ? "frontend" : "all";
+}
+
+static const char *box_field(size_t offset)
+{
+    static const char *const names[] = {"size", "held", "clock"};
+    size_t inside = offset - offsetof(struct plain_box, size);
+    return inside < 12 ? names[inside / 4] : inside < 14 ? "sequence" : "frontends";
+}
+
+static void tell_table(size_t at)
+{
+    size_t stream = at - offsetof(struct plain_box, streams);
+    const uint8_t *a = (const uint8_t *)&archive.box, *b = (const uint8_t *)&plain.box;
+    printf("difference: table, byte %zu: archive %02X, plain %02X: ", at, a[at], b[at]);
+    if (at < offsetof(struct plain_box, streams))
+        printf("sessions[%zu].%s\n", at / sizeof(struct plain_session),
+               session_field(at % sizeof(struct plain_session)));
+    else if (at < offsetof(struct plain_box, size))
+        printf("streams[%zu].%s\n", stream / sizeof(struct plain_stream),
+               stream_field(stream % sizeof(struct plain_stream)));
+    else
+        printf("%s\n", box_field(at));
+}
+
+static bool same_table(bool tell)
+{
+    if (memcmp(&archive.box, &plain.box, sizeof plain.box) == 0)
+        return true;
+    if (tell)
+        tell_table(first_difference(&archive.box, &plain.box, sizeof plain.box));
+    return false;
+}
+
+static bool same_outcome(const struct outcome *one, const struct outcome *other, bool tell)
+{
+    bool same = same_number("refusal", one->refusal, other->refusal, tell);
+    same &= same_number("count", one->count, other->count, tell);
+    same &= same_number("order's on", one->on, other->on, tell);
+    same &= same_bytes("order", (const uint8_t *)&one->stream, (const uint8_t *)&other->stream,
+                       sizeof one->stream, tell);
+    same &= same_bytes("record read", (const uint8_t *)&one->record, (const uint8_t *)&other->record,
+                       sizeof one->record, tell);
+    same &= same_bytes("record written", one->bytes, other->bytes, sizeof one->bytes, tell);
+    return same;
+}
+
+/* Compares all that the call may have touched; the journal as far as it was ever lent. */
+static bool same_sides(const struct call *call, bool tell)
+{
+    bool same = same_outcome(&archive.outcome, &plain.outcome, tell);
+    if (call->kind == REQUEST)
+        same &= same_bytes("answer", archive.answer, plain.answer, sizeof plain.answer, tell);
+    if (call->kind == COLLECT)
+        same &= same_bytes("buffer", archive.buffer, plain.buffer, call->numbers[1] + GUARD, tell);
+    same &= same_bytes("journal", archive.journal, plain.journal, journal_reach + GUARD, tell);
+    same &= same_table(tell);
+    return same;
+}
+
+/* The call itself. */
+
+static void change_table(struct side *side, const struct call *call)
+{
+    if (call->kind == SAVE)
+        side->saved = side->box;
+    if (call->kind == RESTORE)
+        side->box = side->saved;
+    if (call->kind == POKE)
+        memcpy((uint8_t *)&side->box + call->numbers[0], call->bytes, call->length);
+}
+
+static void make_ready(struct side *side, const struct call *call)
+{
+    memset(&side->outcome, 0, sizeof side->outcome);
+    if (call->kind == REQUEST)
+        memcpy(side->answer, pattern, sizeof side->answer);
+    if (call->kind == COLLECT)
+        memcpy(side->buffer, pattern, call->numbers[1] + GUARD);
+    change_table(side, call);
+}
+
+/* The length of the journal that a call lends to be written. */
+static size_t journal_lent(const struct call *call)
+{
+    return call->kind == REQUEST ? call->numbers[4] : call->kind == TICK ? call->numbers[1] : 0;
+}
+
+bool call_both(const struct call *call, bool tell)
+{
+    if (journal_lent(call) > journal_reach)
+        journal_reach = journal_lent(call);
+    make_ready(&archive, call);
+    make_ready(&plain, call);
+    held_before = plain.box.held;
+    int number = sigsetjmp(back, 1);
+    if (number != 0) {
+        if (tell)
+            printf("difference: %s crashed, signal %d\n", under_way, number);
+        return false;
+    }
+    under_way = "archive";
+    call_archive(&archive, call);
+    under_way = "plain";
+    call_plain(&plain, call);
+    return same_sides(call, tell);
+}
+
+/* Counting. */
+
+static size_t method_of(const struct call *call)
+{
+    static const char *const names[METHODS - 1] = {"OPTIONS ", "SETUP ", "PLAY ", "TEARDOWN "};
+    size_t i = 0;
+    while (i < METHODS - 1
+           && (call->length < strlen(names[i]) || memcmp(call->bytes, names[i], strlen(names[i])) != 0))
+        i++;
+    return i;
+}
+
+static unsigned status_of(const uint8_t *answer)
+{
+    return (answer[9] - '0') * 100u + (answer[10] - '0') * 10u + (answer[11] - '0') * 1u;
+}
+
+static uint32_t sessions_open(void)
+{
+    uint32_t open = 0;
+    for (size_t i = 0; i < PLAIN_SESSIONS; i++)
+        open += plain.box.sessions[i].number != 0;
+    return open;
+}
+
+static void count_status(const struct call *call)
+{
+    unsigned status = status_of(plain.answer);
+    uint32_t open = sessions_open();
+    if (status >= STATUSES)
+        return;
+    reached.statuses[status][method_of(call)]++;
+    reached.unnumbered += status == 400 && plain.outcome.count == strlen("RTSP/1.0 400 Bad Request\r\n\r\n");
+    if (status != 503)
+        return;
+    reached.no_place += open == PLAIN_SESSIONS;
+    reached.no_room += open < PLAIN_SESSIONS
+        && plain.box.held + PLAIN_RECORD_BYTES * (open + 2) > plain.box.size;
+}
+
+/* Counts the records the call wrote. */
+static void count_records(const struct call *call)
+{
+    bool cascade = false;
+    for (uint32_t at = held_before; at < plain.box.held; at += PLAIN_RECORD_BYTES) {
+        struct plain_record record;
+        if (plain_read_record(plain.journal + at, PLAIN_RECORD_BYTES, 0, &record) != PLAIN_DONE)
+            continue;
+        reached.opened += record.kind == 1;
+        reached.joined += record.kind == 2;
+        reached.closed[record.cause] += record.kind == 3;
+        reached.number_taken += record.kind < 3 && record.session != word(call, 2);
+        cascade |= record.cause == 3;
+    }
+    reached.cascades += cascade;
+    reached.full_journals += plain.box.held > held_before && plain.box.held == plain.box.size;
+}
+
+void count_reached(const struct call *call)
+{
+    static bool poked;
+    uint32_t refusal = plain.outcome.refusal;
+    bool judges = call->kind == REQUEST || call->kind == TICK || call->kind == COLLECT || call->kind == ORDER;
+    reached.calls[call->kind][refusal < REFUSALS ? refusal : 0]++;
+    if (call->kind == REQUEST && refusal == 0)
+        count_status(call);
+    if ((call->kind == REQUEST || call->kind == TICK) && refusal == 0)
+        count_records(call);
+    reached.orders_on += plain.outcome.on;
+    if (poked && judges) {
+        reached.tables_bad += refusal == PLAIN_BAD_TABLE;
+        reached.tables_good += refusal != PLAIN_BAD_TABLE;
+    }
+    poked = call->kind == POKE || (poked && !judges && call->kind != RESTORE);
+}
