@@ -5,43 +5,15 @@
 #define _POSIX_C_SOURCE 200809L
 
 #include "compare.h"
+#include "satbox.h"
 
 #include <setjmp.h>
 #include <signal.h>
 #include <stdio.h>
 #include <string.h>
 
-/* What the archive exports. Its structs are laid out as those of the plain box. */
-
-struct satbox_reply {
-    uint32_t refusal, count;
-};
-
-struct satbox_order {
-    uint32_t refusal, on;
-    struct plain_stream stream;
-};
-
-struct satbox_found {
-    uint32_t refusal;
-    struct plain_record entry;
-};
-
-struct satbox_noted {
-    uint32_t refusal;
-    uint8_t bytes[PLAIN_RECORD_BYTES];
-};
-
-uint32_t satbox_make(struct plain_box *box, uint32_t frontends, uint32_t size);
-struct satbox_reply satbox_request(struct plain_box *box, const uint8_t *request, size_t length, uint32_t clock,
-                                   uint32_t address, uint32_t draw, uint8_t *answer, size_t answer_length,
-                                   uint8_t *journal, size_t journal_length);
-uint32_t satbox_tick(struct plain_box *box, uint32_t clock, uint8_t *journal, size_t journal_length);
-struct satbox_reply satbox_collect(struct plain_box *box, const uint8_t *journal, size_t journal_length,
-                                   uint8_t *buffer, size_t buffer_length);
-struct satbox_order satbox_order(struct plain_box *box, uint32_t frontend);
-struct satbox_found satbox_read_record(const uint8_t *bytes, size_t length, size_t place);
-struct satbox_noted satbox_write_record(struct plain_record entry);
+_Static_assert(sizeof(struct satbox) == sizeof(struct plain_box), "the same bytes are both");
+_Static_assert(sizeof(struct satbox_stream) == sizeof(struct plain_stream), "the same bytes are both");
 
 struct side archive, plain;
 struct reached reached;
@@ -126,17 +98,17 @@ static struct plain_record record_of(const struct call *call)
     return record;
 }
 
-/* Copies the fields of a record and not the two bytes between them. */
-static void keep_record(struct plain_record *kept, const struct plain_record *record)
-{
-    kept->kind = record->kind;
-    kept->cause = record->cause;
-    kept->clock = record->clock;
-    kept->session = record->session;
-    kept->stream = record->stream;
-    kept->frontend = record->frontend;
-    kept->sequence = record->sequence;
-}
+/* Copies the fields of a record and not the two bytes between them. The archive's record and the plain one have the same fields. */
+#define KEEP_RECORD(kept, record) \
+    do { \
+        (kept).kind = (record).kind; \
+        (kept).cause = (record).cause; \
+        (kept).clock = (record).clock; \
+        (kept).session = (record).session; \
+        (kept).stream = (record).stream; \
+        (kept).frontend = (record).frontend; \
+        (kept).sequence = (record).sequence; \
+    } while (0)
 
 /* The archive's calls. */
 
@@ -149,14 +121,14 @@ static void keep_reply(struct outcome *outcome, struct satbox_reply reply)
 static void keep_found(struct outcome *outcome, struct satbox_found found)
 {
     outcome->refusal = found.refusal;
-    keep_record(&outcome->record, &found.entry);
+    KEEP_RECORD(outcome->record, found.entry);
 }
 
-static void keep_order(struct outcome *outcome, struct satbox_order order)
+static void keep_order(struct outcome *outcome, struct satbox_ordered order)
 {
     outcome->refusal = order.refusal;
     outcome->on = order.on;
-    outcome->stream = order.stream;
+    memcpy(&outcome->stream, &order.stream, sizeof outcome->stream);
 }
 
 static void keep_noted(struct outcome *outcome, struct satbox_noted noted)
@@ -165,25 +137,34 @@ static void keep_noted(struct outcome *outcome, struct satbox_noted noted)
     memcpy(outcome->bytes, noted.bytes, sizeof outcome->bytes);
 }
 
+static struct satbox_record entry_of(const struct call *call)
+{
+    const struct plain_record record = record_of(call);
+    struct satbox_record entry;
+    KEEP_RECORD(entry, record);
+    return entry;
+}
+
 static void call_archive(struct side *side, const struct call *call)
 {
     struct outcome *outcome = &side->outcome;
+    struct satbox *box = (struct satbox *)(void *)&side->box;
     const uint64_t *n = call->numbers;
     switch (call->kind) {
-    case MAKE: outcome->refusal = satbox_make(&side->box, word(call, 0), word(call, 1)); break;
+    case MAKE: outcome->refusal = satbox_make(box, word(call, 0), word(call, 1)); break;
     case REQUEST:
-        keep_reply(outcome, satbox_request(&side->box, request_of(call), call->length, word(call, 0), word(call, 1),
+        keep_reply(outcome, satbox_request(box, request_of(call), call->length, word(call, 0), word(call, 1),
                                            word(call, 2), lent(side->answer, n[3]), n[3],
                                            lent(side->journal, n[4]), n[4]));
         break;
-    case TICK: outcome->refusal = satbox_tick(&side->box, word(call, 0), lent(side->journal, n[1]), n[1]); break;
+    case TICK: outcome->refusal = satbox_tick(box, word(call, 0), lent(side->journal, n[1]), n[1]); break;
     case COLLECT:
-        keep_reply(outcome, satbox_collect(&side->box, lent(side->journal, n[0]), n[0], lent(side->buffer, n[1]), n[1]));
+        keep_reply(outcome, satbox_collect(box, lent(side->journal, n[0]), n[0], lent(side->buffer, n[1]), n[1]));
         break;
-    case ORDER: keep_order(outcome, satbox_order(&side->box, word(call, 0))); break;
+    case ORDER: keep_order(outcome, satbox_order(box, word(call, 0))); break;
     case READ: keep_found(outcome, satbox_read_record(lent(side->journal, n[0]), n[0], n[1])); break;
     case LOOK: keep_found(outcome, satbox_read_record(call->bytes, call->length, n[0])); break;
-    case WRITE: keep_noted(outcome, satbox_write_record(record_of(call))); break;
+    case WRITE: keep_noted(outcome, satbox_write_record(entry_of(call))); break;
     default: break;
     }
 }
@@ -213,7 +194,7 @@ static uint32_t plain_found(struct side *side, const uint8_t *bytes, size_t leng
 {
     struct plain_record record;
     int refusal = plain_read_record(bytes, length, place, &record);
-    keep_record(&side->outcome.record, &record);
+    KEEP_RECORD(side->outcome.record, record);
     return (uint32_t)refusal;
 }
 

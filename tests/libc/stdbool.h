@@ -1,0 +1,7 @@
+/* What the programs here use of stdbool.h. */
+#ifndef LIBC_STDBOOL_H
+#define LIBC_STDBOOL_H
+#define bool _Bool
+#define true 1
+#define false 0
+#endif

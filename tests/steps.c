@@ -1,0 +1,61 @@
+/* See steps.h. */
+#define _POSIX_C_SOURCE 200809L
+
+#include "steps.h"
+
+#include <signal.h>
+#include <stddef.h>
+#include <stdint.h>
+#include <string.h>
+
+/* Where Linux keeps the instruction pointer in what a handler is shown on x86-64. */
+enum { POINTER_AT = 168 };
+
+static volatile unsigned long steps;
+static volatile uintptr_t last;
+/* Those of starting and stopping themselves. */
+static unsigned long own;
+
+static void stepped(int number, siginfo_t *info, void *shown)
+{
+    uintptr_t pointer;
+    (void)number;
+    (void)info;
+    memcpy(&pointer, (const char *)shown + POINTER_AT, sizeof pointer);
+    if (pointer != last)
+        steps++;
+    last = pointer;
+}
+
+void steps_trap(void);
+void steps_untrap(void);
+__asm__("steps_trap:\n pushfq\n orq $0x100, (%rsp)\n popfq\n ret\n"
+        "steps_untrap:\n pushfq\n andq $~0x100, (%rsp)\n popfq\n ret\n");
+
+bool steps_prepare(void)
+{
+    struct sigaction action;
+    memset(&action, 0, sizeof action);
+    action.sa_sigaction = stepped;
+    action.sa_flags = SA_SIGINFO;
+    sigaction(SIGTRAP, &action, NULL);
+    own = 0;
+    steps_start();
+    own = steps_stop();
+    steps_start();
+    __asm__ volatile("nop\n nop\n nop\n nop");
+    return steps_stop() == 4;
+}
+
+void steps_start(void)
+{
+    steps = 0;
+    last = 0;
+    steps_trap();
+}
+
+unsigned long steps_stop(void)
+{
+    steps_untrap();
+    return steps - own;
+}

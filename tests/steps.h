@@ -1,0 +1,17 @@
+/*
+ * Counts the instructions that the processor executes, by its own trap after each of them: nothing is installed for it, and an emulator
+ * that knows the trap counts alike. x86-64 under Linux only.
+ */
+#ifndef STEPS_H
+#define STEPS_H
+
+#include <stdbool.h>
+
+/* To be called once, before the first count. False where the machine hands no such trap on: then there is nothing to count by. */
+bool steps_prepare(void);
+
+/* Counts from the one to the other. A repeated instruction (rep) counts once. */
+void steps_start(void);
+unsigned long steps_stop(void);
+
+#endif
