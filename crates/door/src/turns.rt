@@ -100,9 +100,9 @@ pub(crate) fn tick(t: SatBox, clock: u32, journal: &mut [u8]) -> Refusing
         × (r .satbox ≡ ticked clock t (now (journal .entry)))
         × (now (journal .exit) ≡ tickedJournal clock t (now (journal .entry))) ⌝ }
 {
-    let r = satbox::tick(t, clock, journal);
-    let outcome = r.outcome;
-    let u = r.satbox;
+    let ticked = satbox::tick(t, clock, journal);
+    let outcome = ticked.outcome;
+    let u = ticked.satbox;
     Refusing {
         refusal: number_in(outcome),
         satbox: u,
@@ -114,12 +114,12 @@ pub(crate) fn collect(t: SatBox, journal: &[u8], buffer: &mut [u8]) -> Replying
         × (r .satbox ≡ collected t (now (journal .entry)) (now (buffer .entry)))
         × (now (buffer .exit) ≡ collectedInto t (now (journal .entry)) (now (buffer .entry))) ⌝ }
 {
-    let r = satbox::collect(t, journal, buffer);
-    let outcome = r.outcome;
-    let u = r.satbox;
+    let collected = satbox::collect(t, journal, buffer);
+    let outcome = collected.outcome;
+    let u = collected.satbox;
     let reply = Reply {
         refusal: number_in(outcome),
-        count: r.count,
+        count: collected.count,
     };
     Replying { reply, satbox: u }
 }
