@@ -1,6 +1,6 @@
 -- What changes nothing: the case of a header's name, and a header that is not known. Both are said of the lines; only where the values
 -- stand can change. Assumes nothing.
-use mathlib.Core.Path.{_≡_, refl, _∙_}
+use mathlib.Core.Path.{_≡_, refl}
 use mathlib.Core.Bool.{true, false, not}
 use mathlib.Core.List.{List, [], _∷_, _++_, map}
 use Prim.Native.Nat.{ℕ, _≤_}
@@ -10,11 +10,8 @@ use Rattle.scan.specs.Lists.{all}
 use Rattle.scan.specs.Classes.{isText}
 use Rattle.scan.specs.Compare.{small}
 use Rattle.scan.specs.Trim.{isEmpty}
-use Rattle.scan.specs.Cut.{cut}
-use Rattle.scan.specs.Words.{isWord, placeAmong}
 use Rattle.scan.specs.declared.Case.the-variants.{Ignored}
-use Rattle.scan.proofs.Loops.{first-same}
-use Rattle.scan.proofs.Compares.{alike-by, alike-swapped}
+use Rattle.scan.proofs.Places.{place-by}
 use Rattle.lines.specs.Headers.{known, nameOf, isHeader, headerOf, valueOf, valuesOf}
 use Rattle.lines.specs.Lines.{areHeaders}
 
@@ -24,10 +21,7 @@ pub data Recased : List (List ℕ) → List (List ℕ) → Type 0 where
   next : {h g : List ℕ} {hs gs : List (List ℕ)} → map small (nameOf h) ≡ map small (nameOf g) → valueOf h ≡ valueOf g → Recased hs gs → Recased (h ∷ hs) (g ∷ gs)
 
 recased-kind : (h g : List ℕ) → map small (nameOf h) ≡ map small (nameOf g) → headerOf h ≡ headerOf g
-unfolding placeAmong
-recased-kind h g e =
-    first-same (isWord Ignored (nameOf h)) (isWord Ignored (nameOf g))
-    (λ w. alike-swapped small w (nameOf h) ∙ alike-by small (nameOf h) (nameOf g) w e ∙ alike-swapped small (nameOf g) w) (cut 32 known)
+recased-kind h g e = place-by Ignored known (nameOf h) (nameOf g) e
 
 pub recased-values : (k : ℕ) {hs gs : List (List ℕ)} → Recased hs gs → valuesOf k hs ≡ valuesOf k gs
 recased-values k same = refl

@@ -4,3 +4,4 @@ pub mod Parts
 pub mod Compares
 pub mod Trims
 pub mod Cuts
+pub mod Places

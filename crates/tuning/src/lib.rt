@@ -2,6 +2,7 @@
 // byte of a frequency or of a list of PIDs once more, for the dot or the commas; a byte of a name or a word at most once for each word
 // of the table that is as long. The text of pids is looked at as a word before it is read as a list. No byte is copied.
 ghost use mathlib.Core.Path.{_≡_};
+ghost use Prim.Native.Nat.{_<_};
 ghost use lib.ListN.{length};
 ghost use Rattle.scan.specs.Lists.{FirstOf};
 ghost use Rattle.scan.specs.Cut.{is, cut};
@@ -13,15 +14,61 @@ use digits::Zeros;
 use scan::Case;
 use scan::Class;
 
-// The place of an attribute's name in document 01's table, or 13 where it has no such name.
+// The place of a name of fewer than four bytes.
+fn short_attribute(name: &[u8]) -> usize
+    requires { ⌜ length (now name) < 4 ⌝ }
+    ensures { λ r. ⌜ r ≡ attributeOf (now (name .entry)) ⌝ }
+{
+    if scan::are_alike(b"src", name, Case::Counts) {
+        return 0;
+    }
+    if scan::are_alike(b"fe", name, Case::Counts) {
+        return 1;
+    }
+    if scan::are_alike(b"pol", name, Case::Counts) {
+        return 3;
+    }
+    if scan::are_alike(b"ro", name, Case::Counts) {
+        return 7;
+    }
+    if scan::are_alike(b"sr", name, Case::Counts) {
+        return 8;
+    }
+    if scan::are_alike(b"fec", name, Case::Counts) {
+        return 9;
+    }
+    13
+}
+
+// The place of an attribute's name in document 01's table, or 13 where it has no such name. Names are compared whole.
 pub fn attribute_of(name: &[u8]) -> usize
     ensures { λ r. ⌜ r ≡ attributeOf (now (name .entry)) ⌝ }
 {
-    scan::place_among(
-        b"src fe freq pol msys mtype plts ro sr fec pids addpids delpids",
-        name,
-        Case::Counts,
-    )
+    if name.len() < 4 {
+        return short_attribute(name);
+    }
+    if scan::are_alike(b"freq", name, Case::Counts) {
+        return 2;
+    }
+    if scan::are_alike(b"msys", name, Case::Counts) {
+        return 4;
+    }
+    if scan::are_alike(b"mtype", name, Case::Counts) {
+        return 5;
+    }
+    if scan::are_alike(b"plts", name, Case::Counts) {
+        return 6;
+    }
+    if scan::are_alike(b"pids", name, Case::Counts) {
+        return 10;
+    }
+    if scan::are_alike(b"addpids", name, Case::Counts) {
+        return 11;
+    }
+    if scan::are_alike(b"delpids", name, Case::Counts) {
+        return 12;
+    }
+    13
 }
 
 // A number of one to five digits from `least` to `most`.
