@@ -1,177 +1,294 @@
--- The rules of a well-formed table as the code tests them: where a session lives, and how many own each stream. Assumes nothing.
+-- A table is well formed as one walk over its sessions and one over its streams find it: a record for what holds at a place, and a law for
+-- the start, a turn and each way out. A walk that ends early met what no well-formed table has. Assumes nothing.
 use mathlib.Core.Path.{_≡_, refl, sym, _∙_, ap, subst}
-use mathlib.Core.Bool.{Bool, true, false, not, _&&_, _||_, and-true, and-false}
-use mathlib.Core.List.{List}
-use Prim.Native.Nat.{ℕ, zero, suc, _+_, _-_, _≤_, _<_}
+use mathlib.Core.Bool.{Bool, true, false, not, _&&_, _||_, and-false}
+use mathlib.Core.List.{List, [], _∷_}
+use Prim.Native.Nat.{ℕ, zero, suc, _+_, _*_, _-_, _%_, _≤_, _<_}
+use native.Mathlib.Numerals.{add-one}
+use native.Mathlib.Nat.{sub-zero}
 use native.Mathlib.Omega.{arith}
-use lib.Dec.{eqb}
-use lib.ListN.{length, getD, set, drop, replicate, length-set, getD-replicate, List·getD-eq-default}
+use lib.Dec.{eqb, leb}
+use lib.ListN.{length, getD, set, take, drop, replicate, length-set, getD-replicate}
 use lib.Seq.{getD-set-same, getD-set-other}
-use borrow.Author.Tests.{eq-eqb, ne-eqb}
-use Rattle.scan.specs.Lists.{all}
-use Rattle.scan.proofs.Loops.{turn, end, Passing, passing-start, passing-more, passing-not, passing-end}
-use Rattle.scan.proofs.Bools.{Same, sames, same, other}
-use Rattle.stream.specs.Streams.{pastStream}
+use borrow.Author.Tests.{eq-eqb, ne-eqb, eqb-true, leb-true, leb-false, le-leb}
+use Rattle.scan.specs.Classes.{isBetween}
+use Rattle.scan.specs.Lists.{all, part}
+use Rattle.scan.proofs.Loops.{turn, end, Passing, passing-start, passing-more, passing-end}
+use Rattle.scan.proofs.Bools.{never, and-both, and-and, Case, is, isnt, case, Same, sames, same, other, both, or-second, or-neither}
+use Rattle.stream.specs.Streams.{pastStream, isSound}
 use Rattle.stream.specs.declared.Stream.{Stream}
-use Rattle.table.specs.Table.{noSession, isOpen, sessionAt, streamIn, isDead, owns}
-use Rattle.table.specs.Formed.{isHoused, areOwned}
-use Rattle.table.specs.Owners.{isOwner, Tally}
+use Rattle.table.specs.Counts.{bit, count, isAmong, areDistinct}
+use Rattle.table.specs.Table.{noSession, has, isOpen, opens, sessionAt, streamOf, isDead, owns}
+use Rattle.table.specs.Formed.{areSizes, numbersOf, isHoused, areOwned, isSeated, isProper, wellFormed}
 use Rattle.table.specs.declared.Session.{Session}
 use Rattle.table.specs.declared.SatBox.{SatBox}
-use Rattle.table.proofs.Places.{failed, held, Counting, counting-start, counting-one, counting-no, counting-end}
+use Rattle.table.proofs.Places.{failed, held, Counting, counting-start, counting-by, counting-end}
+use Rattle.table.proofs.Counts.{bit-no, bit-yes, count-none, none-count, count-map, count-distinct, is-number}
+use Rattle.table.proofs.NumberLaws.{Gathered, gathered-start, gathered-more, gathered-end}
+use Rattle.table.proofs.Rules.{WellFormed, formed, one-step}
+use Rattle.table.proofs.Changes.{seated-live}
+use Rattle.table.proofs.Ids.{stream-none, stream-past, stream-at}
 
--- "each open session belongs to a live stream": the stream of an ID stands at the place before it
-stream-at : (ms : List Stream) (id : ℕ) → (id ≡ 0 → ⊥) → streamIn ms id ≡ getD ms (id - 1) pastStream
-stream-at ms zero h = absurd (h refl)
-stream-at ms (suc k) h = let e : suc k - 1 ≡ k = omega arith in rw e
+-- what no well-formed table has
+ill : {t : SatBox} → (WellFormed t → ⊥) → false ≡ wellFormed t
+ill {t} h = by (case (wellFormed t))
+  where
+    by : Case (wellFormed t) → false ≡ wellFormed t
+    by (is y) = absurd (h (formed t y))
+    by (isnt n) = sym n
 
--- each open session before place i belongs to a live stream
-pub record Housing (t : SatBox) (i : ℕ) : Type 0 where
+-- a place that is neither empty nor seated
+pub improper : (t : SatBox) (i : ℕ) {r : Bool} → r ≡ isProper (t .clock) (sessionAt t i) → not r ≡ true → false ≡ wellFormed t
+improper t i e n = ill (λ f. never (f .proper i) (failed e n))
+
+-- an ID that is none of 1 to 8 has no stream
+no-id : (ms : List Stream) (id : ℕ) → length ms ≡ 8 → isBetween 1 8 id ≡ false → Same id 0 → Case (leb id 8) → pastStream ≡ getD (pastStream ∷ ms) id pastStream
+no-id ms id l e (same z) c = stream-none ms id z
+no-id ms id l e (other z) (isnt c) = let h = leb-false id 8 c in stream-past ms id (omega arith)
+no-id ms id l e (other z) (is c) = never (both (le-leb 1 id (omega arith)) c) e
+
+-- the other IDs: what stands at one's place, and at the ID
+module _ (id : ℕ) {b : Bool} (e : b ≡ isBetween 1 8 id) (q : not b ≡ false) where
+  pub id-low : 1 ≤ id
+  id-low = leb-true 1 id (and-both (leb 1 id) _ (held e q) .0)
+
+  pub id-high : id < 9
+  id-high = let h = leb-true id 8 (and-both (leb 1 id) _ (held e q) .1) in omega arith
+
+  pub id-place : id - 1 < 8
+  id-place = omega (arith, id-low, id-high)
+
+-- numbers that are packed: one more after the first n
+count-packed : {A : Type 0} (p : A → Bool) (l : List A) (n : ℕ) (v : A) → n < length l → count p (take (n + 1) (set l n v)) ≡ count p (take n l) + bit (p v)
+count-packed {A} p l n v h = rw add-one (by l n h)
+  where
+    by : (l : List A) (n : ℕ) → n < length l → count p (take (suc n) (set l n v)) ≡ count p (take n l) + bit (p v)
+    by [] n h = absurd (omega arith)
+    by (a ∷ l) zero h = omega arith
+    by (a ∷ l) (suc n) h = omega (arith, by l n (omega arith))
+
+-- a session that is seated has a flag for its owner
+flag : (n : ℕ) → n ≤ 1 → Same n 0 → bit (not (eqb n 0)) ≡ n
+flag n h (same z) = rw z
+flag n h (other z) = rw (ne-eqb n 0 z) (omega arith)
+
+seated-owner : (clock : ℕ) (s : Session) → (s .number ≡ 0 → ⊥) → isProper clock s ≡ true → s .owner ≤ 1
+unfolding isSeated
+seated-owner clock s k e =
+    let port = isBetween 1024 65534 (s .port) && eqb (s .port % 2) 0 in
+    let a = and-both (port && leb (s .owner) 1 && leb (s .playing) 1) (leb (s .last) clock) (rw (ne-eqb (s .number) 0 k) at e) in
+    leb-true _ _ (and-both port (leb (s .owner) 1) (and-both (port && leb (s .owner) 1) (leb (s .playing) 1) (a .0) .0) .1)
+
+-- how many more own the stream of an ID with a seated session
+owns-more : (id : ℕ) (s : Session) → (s .number ≡ 0 → ⊥) → s .owner ≤ 1 → s .stream ≡ id → bit (owns id s) ≡ s .owner
+owns-more id s k h e = rw (ne-eqb (s .number) 0 k, eq-eqb (s .stream) id e) (flag (s .owner) h (sames _ _))
+
+owns-other : (id : ℕ) (s : Session) → (s .stream ≡ id → ⊥) → owns id s ≡ false
+owns-other id s n = rw (ne-eqb (s .stream) id n, and-false (isOpen s))
+
+-- THE SESSIONS. Those before place i are proper, and belong to a live stream where they are open; n of them are open, whose numbers stand
+-- in `numbers`, each once; at each ID stands how many of them own its stream
+pub record Walking (t : SatBox) (i : ℕ) (numbers owners : List ℕ) (n : ℕ) : Type 0 where
   pub places : length (t .sessions) ≡ 32
   pub rows : length (t .streams) ≡ 8
-  pub passing : Passing (isHoused t) (t .sessions) i
+  pub room : length numbers ≡ 32
+  pub ids : length owners ≡ 9
+  pub most : n ≤ i
+  pub proper : Passing (isProper (t .clock)) (t .sessions) i
+  pub housed : Passing (isHoused t) (t .sessions) i
+  pub opened : Counting isOpen (t .sessions) i n
+  pub owned : (id : ℕ) → id < 9 → Counting (owns id) (t .sessions) i (getD owners id 0)
+  pub having : (m : ℕ) → (m ≡ 0 → ⊥) → Counting (has m) (t .sessions) i (count (is-number m) (take n numbers))
+  pub once : (m : ℕ) → (m ≡ 0 → ⊥) → count (is-number m) (take n numbers) ≤ 1
 
-pub housing-start : (t : SatBox) → length (t .sessions) ≡ 32 → length (t .streams) ≡ 8 → Housing t 0
-housing-start t l m = record { places = l; rows = m; passing = passing-start (isHoused t) (t .sessions) }
-
-pub housing-end : {t : SatBox} {i : ℕ} → Housing t i → 32 ≤ i → true ≡ all (isHoused t) (t .sessions)
-housing-end {t} r h = passing-end (isHoused t) (r .passing) (omega (arith, r .places))
-
-module _ {t : SatBox} {i : ℕ} (r : Housing t i) (h : i < 32) where
-  more : isHoused t (sessionAt t i) ≡ true → Housing t (i + 1)
-  more e =
-      record {
-        places = r .places;
-        rows = r .rows;
-        passing = passing-more (isHoused t) noSession (r .passing) (omega (arith, r .places)) refl e;
-      }
-
-  not-all : isHoused t (sessionAt t i) ≡ false → false ≡ all (isHoused t) (t .sessions)
-  not-all e = passing-not (isHoused t) noSession (r .passing) (omega (arith, r .places)) refl e
-
-  pub housing-free : sessionAt t i .number ≡ 0 → Housing t (i + 1)
-  housing-free e = more (rw (eq-eqb (sessionAt t i .number) 0 e))
-
-  module _ (n : sessionAt t i .number ≡ 0 → ⊥) where
-    pub housing-none : sessionAt t i .stream ≡ 0 → false ≡ all (isHoused t) (t .sessions)
-    housing-none e = not-all (rw (ne-eqb (sessionAt t i .number) 0 n, e))
-
-    module _ (k : sessionAt t i .stream ≡ 0 → ⊥) where
-      by-frontend : isHoused t (sessionAt t i) ≡ not (isDead (getD (t .streams) (sessionAt t i .stream - 1) pastStream))
-      by-frontend =
-          rw (ne-eqb (sessionAt t i .number) 0 n)
-          (ap (λ (m : Stream). not (isDead m)) (stream-at (t .streams) (sessionAt t i .stream) k))
-
-      pub housing-past : 8 < sessionAt t i .stream → false ≡ all (isHoused t) (t .sessions)
-      housing-past p =
-          not-all (by-frontend ∙ rw (List·getD-eq-default (t .streams) pastStream {n = sessionAt t i .stream - 1} (omega (arith, r .rows))))
-
-      pub housing-dead : getD (t .streams) (sessionAt t i .stream - 1) pastStream .frontend ≡ 0 → false ≡ all (isHoused t) (t .sessions)
-      housing-dead e = not-all (by-frontend ∙ ap not (eq-eqb _ _ e))
-
-      pub housing-live : (getD (t .streams) (sessionAt t i .stream - 1) pastStream .frontend ≡ 0 → ⊥) → Housing t (i + 1)
-      housing-live e = more (by-frontend ∙ ap not (ne-eqb _ _ e))
-
--- "each live stream has exactly one open owner": who counts for the stream of an ID
-module _ (id : ℕ) (s : Session) where
-  owns-not : isOwner s ≡ false → owns id s ≡ false
-  owns-not e = drops (isOpen s) (eqb (s .stream) id) (not (eqb (s .owner) 0)) e
-    where
-      drops : (a b c : Bool) → a && c ≡ false → (a && b) && c ≡ false
-      drops true true c e = e
-      drops true false c e = refl
-      drops false b c e = refl
-
-  owns-other : (s .stream ≡ id → ⊥) → owns id s ≡ false
-  owns-other n = rw (ne-eqb (s .stream) id n, and-false (isOpen s))
-
-  owns-own : isOwner s ≡ true → s .stream ≡ id → owns id s ≡ true
-  owns-own y e = rw (eq-eqb (s .stream) id e, and-true (isOpen s)) y
-
--- at each ID stands how many sessions before place i own its stream
-pub record Tallying (l : List Session) (i : ℕ) (owners : List ℕ) : Type 0 where
-  pub places : length l ≡ 32
-  pub long : length owners ≡ 9
-  pub each : (id : ℕ) → id < 9 → Counting (owns id) l i (getD owners id 0)
-
-pub tallying-start : (l : List Session) → length l ≡ 32 → Tallying l 0 (replicate 9 0)
-tallying-start l e =
+pub walking-start : (t : SatBox) → length (t .sessions) ≡ 32 → length (t .streams) ≡ 8 → Walking t 0 (replicate 32 0) (replicate 9 0) 0
+walking-start t l m =
     record {
-      places = e;
-      long = refl;
-      each = λ id h. subst (Counting (owns id) l 0) (sym (getD-replicate 9 id 0 0 h)) (counting-start (owns id) l);
+      places = l;
+      rows = m;
+      room = refl;
+      ids = refl;
+      most = omega arith;
+      proper = passing-start (isProper (t .clock)) (t .sessions);
+      housed = passing-start (isHoused t) (t .sessions);
+      opened = counting-start isOpen (t .sessions);
+      owned = λ id h. subst (Counting (owns id) (t .sessions) 0) (sym (getD-replicate 9 id 0 0 h)) (counting-start (owns id) (t .sessions));
+      having = λ m h. counting-start (has m) (t .sessions);
+      once = λ m h. omega arith;
     }
 
-pub tallying-end : {l : List Session} {i : ℕ} {owners : List ℕ} → Tallying l i owners → 32 ≤ i → Tally l owners
-tallying-end r h = record { each = λ id k. counting-end (owns id) (r .each id k) (omega (arith, r .places)) }
+-- of a stream there are no more owners than sessions
+pub walking-most : {t : SatBox} {i n : ℕ} {numbers owners : List ℕ} → Walking t i numbers owners n → (id : ℕ) → id < 9 → getD owners id 0 ≤ 32
+walking-most w id h = omega (arith, w .owned id h .most, w .owned id h .inside, w .places)
 
-pub tallying-most : {l : List Session} {i : ℕ} {owners : List ℕ} → Tallying l i owners → (id : ℕ) → id < 9 → getD owners id 0 ≤ 32
-tallying-most r id h = omega (arith, r .each id h .most, r .each id h .inside, r .places)
+module _ {t : SatBox} {i n : ℕ} {numbers owners : List ℕ} (w : Walking t i numbers owners n) (h : i < 32) where
+  within : i < length (t .sessions)
+  within = omega (arith, w .places)
 
-module _ {l : List Session} {i : ℕ} {owners : List ℕ} (r : Tallying l i owners) (h : i < 32) where
-  within : i < length l
-  within = omega (arith, r .places)
-
-  module _ {t : Bool} (e : t ≡ isOwner (getD l i noSession)) where
-    pub tallying-none : not t ≡ true → Tallying l (i + 1) owners
-    tallying-none n =
+  module _ {r : Bool} (e : r ≡ isProper (t .clock) (sessionAt t i)) (y : not r ≡ false) where
+    -- a free place
+    pub walking-free : sessionAt t i .number ≡ 0 → Walking t (i + 1) numbers owners n
+    walking-free z =
+        let f : has 0 (sessionAt t i) ≡ true = eq-eqb (sessionAt t i .number) 0 z in
         record {
-          places = r .places;
-          long = r .long;
-          each = λ id k. counting-no (owns id) noSession (r .each id k) within refl (owns-not id (getD l i noSession) (failed e n));
+          places = w .places;
+          rows = w .rows;
+          room = w .room;
+          ids = w .ids;
+          most = omega (arith, w .most);
+          proper = passing-more (isProper (t .clock)) noSession (w .proper) within refl (held e y);
+          housed = passing-more (isHoused t) noSession (w .housed) within refl (rw f);
+          opened = counting-by isOpen noSession (w .opened) within (rw f (omega arith));
+          owned = λ id k. counting-by (owns id) noSession (w .owned id k) within (rw f (omega arith));
+          having = λ m k. counting-by (has m) noSession (w .having m k) within (rw (ne-eqb (sessionAt t i .number) m (λ q. k (sym q ∙ z))) (omega arith));
+          once = w .once;
         }
 
-    pub tallying-past : 8 < getD l i noSession .stream → Tallying l (i + 1) owners
-    tallying-past p =
-        record {
-          places = r .places;
-          long = r .long;
-          each = λ id k. counting-no (owns id) noSession (r .each id k) within refl (owns-other id (getD l i noSession) (λ q. omega arith));
-        }
+    module _ (k : sessionAt t i .number ≡ 0 → ⊥) where
+      -- an open session of no stream
+      pub walking-stray : {b : Bool} → b ≡ isBetween 1 8 (sessionAt t i .stream) → not b ≡ true → false ≡ wellFormed t
+      walking-stray b q =
+          ill (λ f. seated-live (t .sessions) (pastStream ∷ t .streams) (f .seats) i k
+          (ap (λ m. m .frontend) (sym (no-id (t .streams) (sessionAt t i .stream) (w .rows) (failed b q) (sames _ _) (case _)))))
 
-    pub tallying-one : not t ≡ false → (getD l i noSession .stream ≤ 8) → Tallying l (i + 1) (set owners (getD l i noSession .stream) (getD owners (getD l i noSession .stream) 0 + 1))
-    tallying-one y p = record { places = r .places; long = length-set owners _ _ ∙ r .long; each = λ id k. at id k (sames id (getD l i noSession .stream)) }
-      where
-        at : (id : ℕ) → id < 9 → Same id (getD l i noSession .stream) → Counting (owns id) l (i + 1) (getD (set owners (getD l i noSession .stream) (getD owners (getD l i noSession .stream) 0 + 1)) id 0)
-        at id k (same q) =
-            counting-one (owns id) noSession (r .each id k) within
-            (rw q (getD-set-same owners (getD l i noSession .stream) (getD owners (getD l i noSession .stream) 0 + 1) 0 (omega (arith, r .long))))
-            (owns-own id (getD l i noSession) (held e y) (sym q))
-        at id k (other q) =
-            counting-no (owns id) noSession (r .each id k) within
-            (getD-set-other owners (getD l i noSession .stream) id (getD owners (getD l i noSession .stream) 0 + 1) 0 q)
-            (owns-other id (getD l i noSession) (λ z. q (sym z)))
+      module _ {b : Bool} (d : b ≡ isBetween 1 8 (sessionAt t i .stream)) (q : not b ≡ false) where
+        here : streamOf t (sessionAt t i .stream) ≡ getD (t .streams) (sessionAt t i .stream - 1) pastStream
+        here = sym (stream-at (t .streams) (sessionAt t i .stream) (λ z. omega (arith, id-low (sessionAt t i .stream) d q)))
 
--- each live stream before place i has one owner
-pub record Owning (l : List Session) (ms : List Stream) (owners : List ℕ) (i : ℕ) : Type 0 where
-  pub rows : length ms ≡ 8
-  pub tally : Tally l owners
-  pub same : areOwned l (i + 1) (drop i ms) ≡ areOwned l 1 ms
+        module _ {a : Bool} (g : a ≡ isAmong (sessionAt t i .number) (part 0 n numbers)) where
+          among : a ≡ isAmong (sessionAt t i .number) (take n numbers)
+          among = g ∙ rw sub-zero
 
-pub owning-start : (l : List Session) (ms : List Stream) (owners : List ℕ) → length ms ≡ 8 → Tally l owners → Owning l ms owners 0
-owning-start l ms owners e r = record { rows = e; tally = r; same = refl }
+          -- its number came before
+          twice : a ≡ true → WellFormed t → ⊥
+          twice z f =
+              let v = sessionAt t i .number in
+              let c = w .having v k .same in
+              let b : count (has v) (drop i (t .sessions)) ≡ 1 + count (has v) (drop (i + 1) (t .sessions)) = turn (count (has v)) (t .sessions) i noSession within ∙ rw (eq-eqb v v refl) in
+              never (sym among ∙ z) (none-count (is-number v) (take n numbers) (omega (arith, f .seats .numbers v k)))
 
-module _ {l : List Session} {ms : List Stream} {owners : List ℕ} {i : ℕ} (r : Owning l ms owners i) where
-  pub owning-end : 8 ≤ i → true ≡ areOwned l 1 ms
-  owning-end h = sym (end (areOwned l (i + 1)) ms i (omega (arith, r .rows))) ∙ r .same
+          -- its stream is dead, or its number came before
+          pub walking-not : isDead (getD (t .streams) (sessionAt t i .stream - 1) pastStream) || a ≡ true → false ≡ wellFormed t
+          walking-not z = ill (λ f. by f (case _))
+            where
+              by : WellFormed t → Case (isDead (getD (t .streams) (sessionAt t i .stream - 1) pastStream)) → ⊥
+              by f (is x) = seated-live (t .sessions) (pastStream ∷ t .streams) (f .seats) i k (ap (λ m. m .frontend) here ∙ eqb-true _ _ x)
+              by f (isnt x) = twice (or-second _ a z x) f
 
-  module _ (h : i < 8) where
-    step : areOwned l (i + 1) (drop i ms) ≡ ((isDead (getD ms i pastStream) || eqb (getD owners (i + 1) 0) 1) && areOwned l (i + 1 + 1) (drop (i + 1) ms))
-    step =
-        let z : suc (i + 1) ≡ i + 1 + 1 = omega arith in
-        turn (areOwned l (i + 1)) ms i pastStream (omega (arith, r .rows)) ∙ rw (z, r .tally .each (i + 1) (omega arith))
+          pub walking-more : isDead (getD (t .streams) (sessionAt t i .stream - 1) pastStream) || a ≡ false → Walking t (i + 1) (set numbers n (sessionAt t i .number)) (set owners (sessionAt t i .stream) (getD owners (sessionAt t i .stream) 0 + sessionAt t i .owner)) (n + 1)
+          walking-more z =
+              let v = sessionAt t i .number in
+              let o = or-neither (isDead (getD (t .streams) (sessionAt t i .stream - 1) pastStream)) a z in
+              let f : has 0 (sessionAt t i) ≡ false = ne-eqb v 0 k in
+              let new : count (is-number v) (take n numbers) ≡ 0 = count-none (is-number v) (take n numbers) (sym among ∙ o .1) in
+              record {
+                places = w .places;
+                rows = w .rows;
+                room = length-set numbers _ _ ∙ w .room;
+                ids = length-set owners _ _ ∙ w .ids;
+                most = omega (arith, w .most);
+                proper = passing-more (isProper (t .clock)) noSession (w .proper) within refl (held e y);
+                housed = passing-more (isHoused t) noSession (w .housed) within refl (rw (f, here, o .0));
+                opened = counting-by isOpen noSession (w .opened) within (rw f);
+                owned = λ id l. counting-by (owns id) noSession (w .owned id l) within (tally id l (sames id (sessionAt t i .stream)));
+                having = λ m l. counting-by (has m) noSession (w .having m l) within (packed m);
+                once = λ m l. omega (arith, packed m, first m (w .once m l) new (case (eqb v m)));
+              }
+            where
+              packed : (m : ℕ) → count (is-number m) (take (n + 1) (set numbers n (sessionAt t i .number))) ≡ count (is-number m) (take n numbers) + bit (eqb (sessionAt t i .number) m)
+              packed m = count-packed (is-number m) numbers n (sessionAt t i .number) (omega (arith, w .room, w .most))
 
-    pub owning-dead : getD ms i pastStream .frontend ≡ 0 → Owning l ms owners (i + 1)
-    owning-dead e = record { rows = r .rows; tally = r .tally; same = sym (step ∙ rw (eq-eqb (getD ms i pastStream .frontend) 0 e)) ∙ r .same }
+              tally : (id : ℕ) → id < 9 → Same id (sessionAt t i .stream) → getD (set owners (sessionAt t i .stream) (getD owners (sessionAt t i .stream) 0 + sessionAt t i .owner)) id 0 ≡ getD owners id 0 + bit (owns id (sessionAt t i))
+              tally id l (same x) =
+                  rw (owns-more id (sessionAt t i) k (seated-owner (t .clock) (sessionAt t i) k (held e y)) (sym x), x)
+                  (getD-set-same owners (sessionAt t i .stream) (getD owners (sessionAt t i .stream) 0 + sessionAt t i .owner) 0 (omega (arith, w .ids, id-high (sessionAt t i .stream) d q)))
+              tally id l (other x) =
+                  omega (arith, getD-set-other owners (sessionAt t i .stream) id (getD owners (sessionAt t i .stream) 0 + sessionAt t i .owner) 0 x, bit-no (owns-other id (sessionAt t i) (λ q. x (sym q))))
 
-    module _ (n : getD ms i pastStream .frontend ≡ 0 → ⊥) where
-      pub owning-one : getD owners (i + 1) 0 ≡ 1 → Owning l ms owners (i + 1)
-      owning-one e =
+              first : (m : ℕ) → count (is-number m) (take n numbers) ≤ 1 → count (is-number (sessionAt t i .number)) (take n numbers) ≡ 0 → Case (eqb (sessionAt t i .number) m) → count (is-number m) (take n numbers) + bit (eqb (sessionAt t i .number) m) ≤ 1
+              first m l new (isnt x) = omega (arith, bit-no x)
+              first m l new (is x) =
+                  let none : count (is-number m) (take n numbers) ≡ 0 = ap (λ j. count (is-number j) (take n numbers)) (sym (eqb-true _ m x)) ∙ new in
+                  omega (arith, bit-yes x)
+
+-- all sessions
+pub record Walked (t : SatBox) (owners : List ℕ) (n : ℕ) : Type 0 where
+  pub rows : length (t .streams) ≡ 8
+  pub ids : length owners ≡ 9
+  pub most : n ≤ 32
+  pub distinct : areDistinct (numbersOf (t .sessions)) ≡ true
+  pub housed : all (isHoused t) (t .sessions) ≡ true
+  pub proper : all (isProper (t .clock)) (t .sessions) ≡ true
+  pub owned : (id : ℕ) → id < 9 → getD owners id 0 ≡ count (owns id) (t .sessions)
+  pub opened : n ≡ opens t
+
+walked : {t : SatBox} {i n : ℕ} {numbers owners : List ℕ} → Walking t i numbers owners n → 32 ≤ i → Walked t owners n
+walked {t} {i} w h =
+    let p : length (t .sessions) ≤ i = omega (arith, w .places) in
+    record {
+      rows = w .rows;
+      ids = w .ids;
+      most = omega (arith, w .most, w .places, w .opened .inside);
+      distinct =
+          count-distinct (numbersOf (t .sessions))
+          (λ m z. rw (count-map (is-number m) (λ s. s .number) (t .sessions)) (omega (arith, counting-end (has m) (w .having m z) p, w .once m z)));
+      housed = sym (passing-end (isHoused t) (w .housed) p);
+      proper = sym (passing-end (isProper (t .clock)) (w .proper) p);
+      owned = λ id k. counting-end (owns id) (w .owned id k) p;
+      opened = counting-end isOpen (w .opened) p;
+    }
+
+-- THE STREAMS. Those before place k are sound, and have one owner where they are live; their frontends stand in `feeds`
+pub record Placing (t : SatBox) (owners : List ℕ) (n : ℕ) (was feeds : List ℕ) (k : ℕ) : Type 0 where
+  pub walked : Walked t owners n
+  pub gathered : Gathered (λ (m : Stream). m .frontend) (t .streams) was feeds k
+  pub sound : Passing (isSound (t .frontends)) (t .streams) k
+  pub owned : areOwned (t .sessions) (k + 1) (drop k (t .streams)) ≡ areOwned (t .sessions) 1 (t .streams)
+
+pub placing-start : {t : SatBox} {i n : ℕ} {numbers owners : List ℕ} → Walking t i numbers owners n → 32 ≤ i → Placing t owners n (replicate 8 0) (replicate 8 0) 0
+placing-start {t} w h =
+    record {
+      walked = walked w h;
+      gathered = gathered-start (λ m. m .frontend) (t .streams) (replicate 8 0) (sym (w .rows));
+      sound = passing-start (isSound (t .frontends)) (t .streams);
+      owned = refl;
+    }
+
+module _ {t : SatBox} {n k : ℕ} {owners was feeds : List ℕ} (p : Placing t owners n was feeds k) where
+  module _ (h : k < 8) where
+    row : k < length (t .streams)
+    row = omega (arith, p .walked .rows)
+
+    tallied : getD owners (k + 1) 0 ≡ count (owns (k + 1)) (t .sessions)
+    tallied = p .walked .owned (k + 1) (omega arith)
+
+    module _ {r : Bool} (e : r ≡ (isSound (t .frontends) (getD (t .streams) k pastStream) && (isDead (getD (t .streams) k pastStream) || eqb (getD owners (k + 1) 0) 1))) where
+      pub placing-not : not r ≡ true → false ≡ wellFormed t
+      placing-not z =
+          ill (λ f. never
+          (both (f .rows .sound k)
+          (rw tallied (one-step (t .sessions) (k + 1) (getD (t .streams) k pastStream) (rw add-one (f .seats .owners (suc k))) (case _))))
+          (failed e z))
+
+      pub placing-more : not r ≡ false → Placing t owners n was (set feeds k (getD (t .streams) k pastStream .frontend)) (k + 1)
+      placing-more y =
+          let m = getD (t .streams) k pastStream in
+          let b = and-both (isSound (t .frontends) m) (isDead m || eqb (getD owners (k + 1) 0) 1) (held e y) in
+          let z : suc (k + 1) ≡ k + 1 + 1 = omega arith in
           record {
-            rows = r .rows;
-            tally = r .tally;
-            same = sym (step ∙ rw (ne-eqb (getD ms i pastStream .frontend) 0 n, eq-eqb (getD owners (i + 1) 0) 1 e)) ∙ r .same;
+            walked = p .walked;
+            gathered = gathered-more (λ x. x .frontend) pastStream (p .gathered) row refl;
+            sound = passing-more (isSound (t .frontends)) pastStream (p .sound) row refl (b .0);
+            owned = sym (turn (areOwned (t .sessions) (k + 1)) (t .streams) k pastStream row ∙ rw (z, sym tallied, b .1)) ∙ p .owned;
           }
 
-      pub owning-not : (getD owners (i + 1) 0 ≡ 1 → ⊥) → false ≡ areOwned l 1 ms
-      owning-not e = sym (step ∙ rw (ne-eqb (getD ms i pastStream .frontend) 0 n, ne-eqb (getD owners (i + 1) 0) 1 e)) ∙ r .same
+  -- where all that was walked over is right, these decide
+  pub placing-end : 8 ≤ k → {a b c : Bool} → a ≡ areSizes (t .frontends) (t .size) → b ≡ areDistinct feeds → c ≡ (eqb (t .held % 16) 0 && leb (t .held + 16 * n) (t .size)) → ((a && b) && c) ≡ wellFormed t
+  unfolding wellFormed
+  placing-end h {a} {b} {c} x y z =
+      let l : length (t .streams) ≤ k = omega (arith, p .walked .rows) in
+      let f = gathered-end (λ m. m .frontend) (p .gathered) l in
+      let g = sym (passing-end (isSound (t .frontends)) (p .sound) l) in
+      let o = sym (p .owned) ∙ end (areOwned (t .sessions) (k + 1)) (t .streams) k l in
+      let w = p .walked in
+      sym (and-and a b c) ∙ rw (w .distinct, w .housed, o, g, w .proper, x, y, f, z, w .opened)

@@ -3,9 +3,9 @@ pub mod NumberLaws
 pub mod Draws
 pub mod Counts
 pub mod Frontends
-pub mod FormedLaws
 pub mod Fresh
 pub mod Rules
 pub mod Changes
 pub mod FreeIds
 pub mod Ids
+pub mod FormedLaws

@@ -1,7 +1,7 @@
 -- Loops that gather numbers into an array and look them up: a record for what holds at place i, and a law for the start, a turn and each
 -- way out. Assumes nothing.
 use mathlib.Core.Path.{_≡_, refl, sym, _∙_, ap}
-use mathlib.Core.Bool.{Bool, true, false}
+use mathlib.Core.Bool.{Bool, true, false, _||_, or-false}
 use mathlib.Core.List.{List, map, append-nil}
 use Prim.Native.Nat.{ℕ, _+_, _≤_, _<_}
 use native.Mathlib.Numerals.{add-one}
@@ -61,6 +61,26 @@ module _ {A : Type 0} (p : A → Bool) where
 
     pub lacking-more : p (getD l i d) ≡ false → Lacking l (i + 1)
     lacking-more n = record { inside = omega arith; same = sym (turn (any p) l i d h ∙ rw n) ∙ s .same }
+
+-- `found` says whether an element before place i passes the test
+module _ {A : Type 0} (p : A → Bool) where
+  pub record Noting (l : List A) (found : Bool) (i : ℕ) : Type 0 where
+    pub inside : i ≤ length l
+    pub same : found || any p (drop i l) ≡ any p l
+
+  pub noting-start : (l : List A) → Noting l false 0
+  noting-start l = record { inside = omega arith; same = refl }
+
+  pub noting-more : {l : List A} {i : ℕ} {found : Bool} (d : A) → Noting l found i → i < length l → Noting l (found || p (getD l i d)) (i + 1)
+  noting-more {l} {i} {found} d s h =
+      record { inside = omega arith; same = sym (ap (λ b. found || b) (turn (any p) l i d h) ∙ or-or found (p (getD l i d)) _) ∙ s .same }
+    where
+      or-or : (a b c : Bool) → a || (b || c) ≡ (a || b) || c
+      or-or true b c = refl
+      or-or false b c = refl
+
+  pub noting-end : {l : List A} {i : ℕ} {found : Bool} → Noting l found i → length l ≤ i → found ≡ any p l
+  noting-end {l} {i} {found} s h = sym (or-false found) ∙ sym (ap (λ b. found || b) (end (any p) l i h)) ∙ s .same
 
 -- each number before place i is 0 or does not come again
 pub record Apart (ns : List ℕ) (i : ℕ) : Type 0 where

@@ -8,7 +8,7 @@ use lib.ListN.{length, getD, drop, length-map}
 use borrow.Author.Needs.{needs}
 use borrow.Author.Tests.{not-true, not-false}
 use Rattle.scan.proofs.Loops.{turn, end}
-use Rattle.table.specs.Counts.{count}
+use Rattle.table.specs.Counts.{bit, count}
 
 -- the length of an array of structs, as `good` has it
 pub length-mapped : {A B : Type 0} (f : A → B) (l : List A) (n : ℕ) → length (map f l) ≡ n → length l ≡ n
@@ -23,12 +23,9 @@ failed e h = sym e ∙ not-true _ h
 pub held : {r s : Bool} → r ≡ s → not r ≡ false → s ≡ true
 held e h = sym e ∙ not-false _ h
 
--- one test of several in a row: it ends them, or the rest decides
-pub stopped : {r x : Bool} (y : Bool) → r ≡ x → not r ≡ true → false ≡ (x && y)
-stopped y e n = rw (failed e n)
-
-pub passed : {r x b y : Bool} → r ≡ x → not r ≡ false → b ≡ y → b ≡ (x && y)
-passed e n q = rw (held e n) q
+bit-most : (b : Bool) → bit b ≤ 1
+bit-most true = omega arith
+bit-most false = omega arith
 
 -- n of the elements before place i pass the test
 module _ {A : Type 0} (p : A → Bool) where
@@ -44,12 +41,13 @@ module _ {A : Type 0} (p : A → Bool) where
   counting-end {l} {i} s h = let z = end (count p) l i h in omega (arith, s .same)
 
   module _ {l : List A} {i n m : ℕ} (d : A) (s : Counting l i n) (h : i < length l) where
+    pub counting-by : m ≡ n + bit (p (getD l i d)) → Counting l (i + 1) m
+    counting-by e =
+        let z : count p (drop i l) ≡ bit (p (getD l i d)) + count p (drop (i + 1) l) = turn (count p) l i d h in
+        record { inside = omega arith; most = omega (arith, s .most, bit-most (p (getD l i d))); same = omega (arith, s .same) }
+
     pub counting-one : m ≡ n + 1 → p (getD l i d) ≡ true → Counting l (i + 1) m
-    counting-one e y =
-        let z : count p (drop i l) ≡ 1 + count p (drop (i + 1) l) = turn (count p) l i d h ∙ rw y in
-        record { inside = omega arith; most = omega (arith, s .most); same = omega (arith, s .same) }
+    counting-one e y = counting-by (rw y e)
 
     pub counting-no : m ≡ n → p (getD l i d) ≡ false → Counting l (i + 1) m
-    counting-no e q =
-        let z : count p (drop i l) ≡ 0 + count p (drop (i + 1) l) = turn (count p) l i d h ∙ rw q in
-        record { inside = omega arith; most = omega (arith, s .most); same = omega (arith, s .same) }
+    counting-no e q = counting-by (rw q (omega arith))

@@ -1,17 +1,18 @@
-// Whether a table is well formed: one function for each rule of document 01, in its order. It runs on every call, so that a loop hands on
-// no more than the one place that it looks at.
+// Whether a table is well formed: the rules of document 01 in one walk over the sessions and one over the streams. It runs on every call,
+// so that the table is handed on to nobody: a leaf looks at one place, or at numbers.
 ghost use mathlib.Core.Path.{_≡_};
-ghost use Rattle.scan.specs.Lists.{all};
+ghost use mathlib.Core.Bool.{_&&_, _||_};
+ghost use Prim.Native.Nat.{_+_, _*_, _%_, _≤_};
+ghost use lib.Dec.{eqb, leb};
+ghost use Rattle.scan.specs.Classes.{isBetween};
 ghost use Rattle.stream.specs.Streams.{isSound};
-ghost use Rattle.table.specs.Counts.{areDistinct};
-ghost use Rattle.table.specs.Owners.{isOwner, Tally};
-ghost use Rattle.table.specs.Formed.{areSizes, numbersOf, isHoused, areOwned, frontendsOf, isSeated, isEmpty, isProper, fits, wellFormed};
+ghost use Rattle.table.specs.Table.{isDead};
+ghost use Rattle.table.specs.Formed.{areSizes, isSeated, isEmpty, isProper, wellFormed};
 use crate::SatBox;
 use crate::Session;
-use crate::finding::count_open;
 use crate::numbers::are_distinct;
-use crate::numbers::frontends_of;
-use crate::numbers::numbers_of;
+use crate::numbers::is_among;
+use stream::Stream;
 
 pub(crate) fn are_sizes(frontends: u16, size: u32) -> bool
     ensures { λ r. ⌜ r ≡ areSizes frontends size ⌝ }
@@ -19,102 +20,6 @@ pub(crate) fn are_sizes(frontends: u16, size: u32) -> bool
     ((1 <= frontends) & (frontends <= SatBox::MOST_FRONTENDS))
         & (((SatBox::LEAST_SIZE <= size) & (size <= SatBox::MOST_SIZE))
             & (size % SatBox::RECORD == 0))
-}
-
-fn are_numbers_distinct(t: SatBox) -> bool
-    ensures { λ r. ⌜ r ≡ areDistinct (numbersOf (t .sessions)) ⌝ }
-{
-    are_distinct(&numbers_of(t))
-}
-
-// Whether each open session belongs to a live stream.
-fn are_housed(t: SatBox) -> bool
-    ensures { λ r. ⌜ r ≡ all (isHoused t) (t .sessions) ⌝ }
-{
-    let mut i = 0;
-    while i < SatBox::SESSIONS {
-        let s = t.sessions[i];
-        i += 1;
-        if s.number == 0 {
-            continue;
-        }
-        let id = s.stream as usize;
-        if id == 0 {
-            return false;
-        }
-        if SatBox::STREAMS < id {
-            return false;
-        }
-        if t.streams[id - 1].frontend == 0 {
-            return false;
-        }
-    }
-    true
-}
-
-fn is_owner(s: Session) -> bool
-    ensures { λ r. ⌜ r ≡ isOwner s ⌝ }
-{
-    (s.number != 0) & (s.owner != 0)
-}
-
-// How many open sessions own the stream of each ID from 0 to 8.
-fn owners_of(t: SatBox) -> [u32; 9]
-    ensures { λ r. ⌜ Tally (t .sessions) r ⌝ }
-{
-    let mut owners = [0u32; 9];
-    let mut i = 0;
-    while i < SatBox::SESSIONS {
-        let s = t.sessions[i];
-        i += 1;
-        if !is_owner(s) {
-            continue;
-        }
-        let id = s.stream as usize;
-        if SatBox::STREAMS < id {
-            continue;
-        }
-        owners[id] += 1;
-    }
-    owners
-}
-
-// Whether each live stream has one owner. The stream at place i has the ID i + 1.
-fn are_owned(t: SatBox) -> bool
-    ensures { λ r. ⌜ r ≡ areOwned (t .sessions) 1 (t .streams) ⌝ }
-{
-    let owners = owners_of(t);
-    let mut i = 0;
-    while i < SatBox::STREAMS {
-        let frontend = t.streams[i].frontend;
-        i += 1;
-        if frontend == 0 {
-            continue;
-        }
-        if owners[i] != 1 {
-            return false;
-        }
-    }
-    true
-}
-
-fn are_frontends_distinct(t: SatBox) -> bool
-    ensures { λ r. ⌜ r ≡ areDistinct (frontendsOf (t .streams)) ⌝ }
-{
-    are_distinct(&frontends_of(t))
-}
-
-fn are_streams_sound(t: SatBox) -> bool
-    ensures { λ r. ⌜ r ≡ all (isSound (t .frontends)) (t .streams) ⌝ }
-{
-    let mut i = 0;
-    while i < SatBox::STREAMS {
-        if !stream::is_sound(t.streams[i], t.frontends) {
-            return false;
-        }
-        i += 1;
-    }
-    true
 }
 
 fn is_empty(s: Session) -> bool
@@ -148,51 +53,69 @@ fn is_proper(s: Session, clock: u32) -> bool
     is_seated(s, clock)
 }
 
-fn are_proper(t: SatBox) -> bool
-    ensures { λ r. ⌜ r ≡ all (isProper (t .clock)) (t .sessions) ⌝ }
+fn is_id(id: usize) -> bool
+    ensures { λ r. ⌜ r ≡ isBetween 1 8 id ⌝ }
 {
-    let mut i = 0;
-    while i < SatBox::SESSIONS {
-        if !is_proper(t.sessions[i], t.clock) {
-            return false;
-        }
-        i += 1;
+    (1 <= id) & (id <= SatBox::STREAMS)
+}
+
+// Whether a stream is sound and, where it is live, has one owner.
+fn is_placed(m: Stream, owners: u32, frontends: u16) -> bool
+    ensures { λ r. ⌜ r ≡ (isSound frontends m && (isDead m || eqb owners 1)) ⌝ }
+{
+    if !stream::is_sound(m, frontends) {
+        return false;
     }
-    true
+    (m.frontend == 0) | (owners == 1)
 }
 
 // Whether the journal holds whole records and has room for the closing of each open session.
-fn is_fitting(t: SatBox) -> bool
-    ensures { λ r. ⌜ r ≡ fits t ⌝ }
+fn is_fitting(held: u32, size: u32, opens: usize) -> bool
+    requires { ⌜ opens ≤ 32 ⌝ }
+    ensures { λ r. ⌜ r ≡ (eqb (held % 16) 0 && leb (held + 16 * opens) size) ⌝ }
 {
-    let closings = (SatBox::RECORD * count_open(t)) as u64;
-    (t.held % SatBox::RECORD == 0) & ((t.held as u64) + closings <= (t.size as u64))
+    let closings = SatBox::RECORD as u64 * opens as u64;
+    (held % SatBox::RECORD == 0) & ((held as u64) + closings <= (size as u64))
 }
 
-// Whether a box could stand as this table says.
+// Whether a box could stand as this table says. Of the open sessions so far it keeps their numbers, how many own the stream of each ID
+// (a seated session's owner is 0 or 1), and how many they are. The stream at place k has the ID k + 1.
 pub fn is_well_formed(t: SatBox) -> bool
     ensures { λ r. ⌜ r ≡ wellFormed t ⌝ }
 {
-    if !are_sizes(t.frontends, t.size) {
-        return false;
+    let mut numbers = [0u32; 32];
+    let mut owners = [0u32; 9];
+    let mut opens = 0;
+    let mut i = 0;
+    while i < SatBox::SESSIONS {
+        let s = t.sessions[i];
+        i += 1;
+        if !is_proper(s, t.clock) {
+            return false;
+        }
+        if s.number == 0 {
+            continue;
+        }
+        let id = s.stream as usize;
+        if !is_id(id) {
+            return false;
+        }
+        if (t.streams[id - 1].frontend == 0) | is_among(&numbers[0..opens], s.number) {
+            return false;
+        }
+        numbers[opens] = s.number;
+        owners[id] += s.owner as u32;
+        opens += 1;
     }
-    if !are_numbers_distinct(t) {
-        return false;
+    let mut feeds = [0u32; 8];
+    let mut k = 0;
+    while k < SatBox::STREAMS {
+        let m = t.streams[k];
+        feeds[k] = m.frontend as u32;
+        k += 1;
+        if !is_placed(m, owners[k], t.frontends) {
+            return false;
+        }
     }
-    if !are_housed(t) {
-        return false;
-    }
-    if !are_owned(t) {
-        return false;
-    }
-    if !are_frontends_distinct(t) {
-        return false;
-    }
-    if !are_streams_sound(t) {
-        return false;
-    }
-    if !are_proper(t) {
-        return false;
-    }
-    is_fitting(t)
+    are_sizes(t.frontends, t.size) & are_distinct(&feeds) & is_fitting(t.held, t.size, opens)
 }

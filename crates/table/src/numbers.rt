@@ -1,21 +1,8 @@
-// Numbers in a row: those of a table's sessions and the frontends of its streams, gathered once, and what is looked up among them.
+// Numbers in a row: the frontends of a table's streams, gathered once, and what is looked up among such numbers.
 ghost use mathlib.Core.Path.{_≡_};
 ghost use Rattle.table.specs.Counts.{isAmong, areDistinct};
-ghost use Rattle.table.specs.Formed.{numbersOf, frontendsOf};
+ghost use Rattle.table.specs.Formed.{frontendsOf};
 use crate::SatBox;
-
-// The number at each session's place.
-pub(crate) fn numbers_of(t: SatBox) -> [u32; 32]
-    ensures { λ r. ⌜ r ≡ numbersOf (t .sessions) ⌝ }
-{
-    let mut numbers = [0u32; 32];
-    let mut i = 0;
-    while i < SatBox::SESSIONS {
-        numbers[i] = t.sessions[i].number;
-        i += 1;
-    }
-    numbers
-}
 
 // The frontend at each stream's place.
 pub(crate) fn frontends_of(t: SatBox) -> [u32; 8]
@@ -31,18 +18,17 @@ pub(crate) fn frontends_of(t: SatBox) -> [u32; 8]
     frontends
 }
 
-// Whether a number is one of some.
+// Whether a number is one of some. All are looked at, so that the compiler may compare many at once.
 pub(crate) fn is_among(ns: &[u32], n: u32) -> bool
     ensures { λ r. ⌜ r ≡ isAmong n (now (ns .entry)) ⌝ }
 {
+    let mut found = false;
     let mut i = 0;
     while i < ns.len() {
-        if ns[i] == n {
-            return true;
-        }
+        found = found | (ns[i] == n);
         i += 1;
     }
-    false
+    found
 }
 
 // Whether no number but 0 stands there twice.

@@ -1,59 +1,103 @@
--- `table::formed::is_well_formed` meets its contract. Assumes nothing.
-use borrow.Author.Needs.{needs}
-use Rattle.table.specs.Formed.{wellFormed}
-use Rattle.table.proofs.Places.{stopped, passed}
+-- `table::formed::is_well_formed` meets its contract. Invariants: what holds of the sessions before i, and of the streams before k.
+-- Assumes nothing.
+use Prim.Native.Nat.{_-_}
+use lib.ListN.{getD}
+use Rattle.table.specs.Table.{noSession}
+use Rattle.table.proofs.Places.{known}
+use Rattle.table.proofs.FormedLaws.{Walking, Placing, improper, walking-start, walking-free, walking-stray, id-low, id-high, id-place, walking-most, walking-not, walking-more, placing-start, placing-not, placing-more, placing-end}
 use Rattle.table.proofs.formed.is_well_formed.Statement.{statement}
 use Rattle.table.proofs.formed.is_well_formed.Tie as tie
 
-returns : tie.Need-returns
-unfolding wellFormed
-returns c = search (stopped, passed) depth 9
+abbrev Inv-loop : tie.InvT-loop
+Inv-loop t numbers₀ owners₀ opens₀ i₀ numbers owners opens i = Walking t i numbers owners opens
 
-returns-2 : tie.Need-returns-2
-unfolding wellFormed
-returns-2 c = search (stopped, passed) depth 9
+abbrev μ-loop : tie.MeasureT-loop
+μ-loop t numbers₀ owners₀ opens₀ i₀ numbers owners opens i = 32 - i
 
-returns-3 : tie.Need-returns-3
-unfolding wellFormed
-returns-3 c = search (stopped, passed) depth 9
+abbrev Inv-loop2 : tie.InvT-loop2
+Inv-loop2 t owners opens i feeds₀ k₀ feeds k = Placing t owners opens feeds₀ feeds k
 
-returns-4 : tie.Need-returns-4
-unfolding wellFormed
-returns-4 c = search (stopped, passed) depth 9
+abbrev μ-loop2 : tie.MeasureT-loop2
+μ-loop2 t owners opens i feeds₀ k₀ feeds k = 8 - k
 
-returns-5 : tie.Need-returns-5
-unfolding wellFormed
-returns-5 c = search (stopped, passed) depth 9
+-- the session looked at is open
+returns-3 : tie.Need-returns-3 Inv-loop μ-loop Inv-loop2 μ-loop2
+returns-3 c =
+    let f = c .before .before .before .before in
+    let e = f .before .before .before .before .before in
+    walking-not (e .before .before .before .before .loop .inv) (search known)
+    (e .before .is-proper .ensures) (e .if1 .left) (f .before .before .before .if2 .left)
+    (f .before .is-id .ensures) (f .if3 .left) (c .before .is-among .ensures) (c .if4 .taken)
 
-returns-6 : tie.Need-returns-6
-unfolding wellFormed
-returns-6 c = search (stopped, passed) depth 9
+array-read-owners : tie.Need-array-read-owners Inv-loop μ-loop Inv-loop2 μ-loop2
+array-read-owners c = let f = c .before .before .before .before .before in id-high _ (f .before .is-id .ensures) (f .if3 .left)
 
-returns-7 : tie.Need-returns-7
-unfolding wellFormed
-returns-7 c = search (stopped, passed) depth 9
+add-owners : tie.Need-add-owners Inv-loop μ-loop Inv-loop2 μ-loop2
+add-owners c =
+    let l = c .before .before .before .before .before .before .before .before .before .before .before .before .before .before in
+    let e = walking-most (l .loop .inv) (getD (l .before .args .t1 .sessions) (l .loop .i) noSession .stream) (array-read-owners c) in
+    search known
 
-returns-8 : tie.Need-returns-8
-unfolding wellFormed
-returns-8 c = search passed depth 9
+loop-again-2 : tie.Need-loop-again-2 Inv-loop μ-loop Inv-loop2 μ-loop2
+loop-again-2 c =
+    let f = c .before .before .before .before .before in
+    let e = f .before .before .before .before .before in
+    walking-more (e .before .before .before .before .loop .inv) (search known)
+    (e .before .is-proper .ensures) (e .if1 .left) (f .before .before .before .if2 .left)
+    (f .before .is-id .ensures) (f .if3 .left) (c .before .before .is-among .ensures) (c .before .if4 .left)
 
 pub is-well-formed-spec : {M : Type 1} → statement M
 is-well-formed-spec =
     tie.close
     (tie.spec
-    (λ c κs. search needs)
-    returns
-    (λ c κs. search needs)
-    returns-2
-    (λ c κs. search needs)
+    Inv-loop
+    μ-loop
+    Inv-loop2
+    μ-loop2
+    (λ c. search (walking-start, known))
+    (λ c. search known)
+    (λ c. search known)
+    (λ c. search known)
+    (λ c κs. search known)
+    (λ c. search (improper, known))
+    (λ c. search known)
+    (λ c. search (walking-free, known))
+    (λ c. search known)
+    (λ c κs. search known)
+    (λ c. search (walking-stray, known))
+    (λ c. id-low _ (c .before .is-id .ensures) (c .if3 .left))
+    (λ c. search known)
+    (λ c. id-place _ (c .before .is-id .ensures) (c .if3 .left))
+    (λ c. search known)
+    (λ c. search known)
+    (λ c. search known)
+    (λ c κs. search known)
     returns-3
-    (λ c κs. search needs)
-    returns-4
-    (λ c κs. search needs)
-    returns-5
-    (λ c κs. search needs)
-    returns-6
-    (λ c κs. search needs)
-    returns-7
-    (λ c κs. search needs)
-    returns-8)
+    (λ c. search known)
+    (λ c. search known)
+    (λ c. search known)
+    (λ c. search known)
+    array-read-owners
+    add-owners
+    array-read-owners
+    (λ c. search known)
+    (λ c. search known)
+    loop-again-2
+    (λ c. search (placing-start, known))
+    (λ c. search known)
+    (λ c. search known)
+    (λ c. search known)
+    (λ c. search known)
+    (λ c. search known)
+    (λ c. search known)
+    (λ c. search known)
+    (λ c. search known)
+    (λ c κs. search known)
+    (λ c. search (placing-not, known))
+    (λ c. search known)
+    (λ c. search (placing-more, known))
+    (λ c κs. search known)
+    (λ c. search known)
+    (λ c κs. search known)
+    (λ c κs. search known)
+    (λ c. search (placing-end, known)))
