@@ -1,0 +1,5 @@
+pub mod Settings
+pub mod Journals
+pub mod Holding
+pub mod Refusals
+pub mod Lives

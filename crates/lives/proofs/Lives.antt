@@ -1,0 +1,67 @@
+-- THE LIFE OF A BOX. For every F and C in range, every first journal of C bytes and every sequence of calls that a caller may make (`Lives`,
+-- `isCall`), of the box, the journal and the history after them (`after`, the fold `run` of the calls' meanings from a fresh box). Assumes nothing.
+use mathlib.Core.Path.{_≡_, _∙_}
+use mathlib.Core.Bool.{true}
+use mathlib.Core.List.{List, _++_}
+use mathlib.Core.Logic.{_↔_}
+use Prim.Native.Nat.{ℕ, _+_, _*_, _%_, _≤_, _<_}
+use native.Mathlib.Omega.{arith}
+use lib.ListN.{length, take, getD}
+use Rattle.journal.specs.declared.Record.{Record}
+use Rattle.table.specs.Table.{opens}
+use Rattle.table.specs.Formed.{wellFormed}
+use Rattle.satbox.specs.Did.{bytesOf}
+use Rattle.satbox.proofs.Kept.{whole-formed}
+use Rattle.lives.specs.Calls.{Call, outcomeOf, refusedBy, lacksJournal}
+use Rattle.lives.specs.Runs.{Life, Lives, after}
+use Rattle.lives.proofs.Journals.{counts-at, counts-next}
+use Rattle.lives.proofs.Holding.{after-good}
+use Rattle.lives.proofs.Refusals.{call-gated}
+
+module _ (frontends size : ℕ) (j : List ℕ) (cs : List Call) where
+  abbrev x : Life
+  x = after frontends size j cs
+
+  module _ (h : Lives frontends size j cs) where
+    -- 1. EVERY REACHABLE BOX IS WELL FORMED (`table/specs/Formed.wellFormed`),
+    pub well-formed : wellFormed (x .satbox) ≡ true
+    well-formed = whole-formed (x .satbox) (after-good h .whole)
+
+    -- so that no call is refused with 1, whatever it is called with (`outcomeOf`, `refusedBy`: document 01's numbers),
+    pub never-refused-by-1 : (c : Call) → refusedBy (outcomeOf c (x .satbox) (x .journal)) ≡ 1 → ⊥
+    never-refused-by-1 c = call-gated (x .satbox) well-formed (x .journal) c .0
+
+    -- and with 2 exactly if it is lent a journal of another length (`lacksJournal`)
+    pub refused-by-2-for-length : (c : Call) → (refusedBy (outcomeOf c (x .satbox) (x .journal)) ≡ 2) ↔ (lacksJournal size c (x .journal) ≡ true)
+    refused-by-2-for-length c =
+        rw (after-good h .sized) at (call-gated (x .satbox) well-formed (x .journal) c .1)
+
+    -- and the box's own journal never is
+    pub journal-has-its-length : length (x .journal) ≡ size
+    journal-has-its-length = after-good h .journal
+
+    -- 2. THE JOURNAL'S FIRST BYTES HELD ARE EXACTLY THE RECORDS, in order, of the openings and closings since the last collection: `since`, which
+    -- the rules give for each call (`recordsIn`) and which is not read off the bytes held; their bytes are `bytesOf`,
+    pub journal-holds-the-records : take (x .satbox .held) (x .journal) ≡ bytesOf (x .since)
+    journal-holds-the-records = after-good h .text
+
+    -- 16 bytes each,
+    pub sixteen-bytes-each : x .satbox .held ≡ 16 * length (x .since)
+    sixteen-bytes-each = after-good h .held
+
+    -- and the sequence numbers run on over collections and wrap: each record has its place in the whole history (`history`), modulo 65,536,
+    pub sequence-runs-on : (i : ℕ) (past : Record) → i < length (x .history) → getD (x .history) i past .sequence ≡ i % 65536
+    sequence-runs-on i past l =
+        counts-at 0 (x .satbox .sequence) (x .history) past (omega arith) (after-good h .sequence) i l ∙ omega arith
+
+    -- and the next one has their number
+    pub sequence-to-come : x .satbox .sequence ≡ length (x .history) % 65536
+    sequence-to-come = counts-next 0 (x .satbox .sequence) (x .history) (omega arith) (after-good h .sequence) ∙ omega arith
+
+    -- 3. BYTES HELD PLUS 16 FOR EACH OPEN SESSION NEVER EXCEED C
+    pub room-for-every-closing : x .satbox .held + 16 * opens (x .satbox) ≤ size
+    room-for-every-closing = omega (arith, after-good h .whole .formed .fits .bound, after-good h .sized)
+
+    -- 6. WHAT WAS COLLECTED, JOINED (`gathered`), FOLLOWED BY WHAT IS HELD, IS THE WHOLE HISTORY'S RECORDS: nothing is lost or written twice
+    pub collected-and-held : x .gathered ++ take (x .satbox .held) (x .journal) ≡ bytesOf (x .history)
+    collected-and-held = rw (after-good h .text) (after-good h .whole-history)
