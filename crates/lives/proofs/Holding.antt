@@ -237,3 +237,11 @@ run-good {size = size} (c ∷ cs) e g = let p = and-both (isCall size c) _ e in 
 
 pub after-good : {frontends size : ℕ} {j : List ℕ} {cs : List Call} → Lives frontends size j cs → Good frontends size (after frontends size j cs)
 after-good {frontends} {size} {j} {cs} h = run-good cs (h .calls) (born-good frontends size j (h .sizes) (h .journal))
+
+-- and the box after expired sessions are closed has its frontends and its size still
+module _ {frontends size : ℕ} {j : List ℕ} {cs : List Call} (h : Lives frontends size j cs) (clock : ℕ) where
+  pub swept-fed : sweeping clock (after frontends size j cs .satbox) .satbox .frontends ≡ frontends
+  swept-fed = sweeping-set clock (after frontends size j cs .satbox) (after-good h .whole) .frontends ∙ after-good h .fed
+
+  pub swept-sized : sweeping clock (after frontends size j cs .satbox) .satbox .size ≡ size
+  swept-sized = sweeping-set clock (after frontends size j cs .satbox) (after-good h .whole) .size ∙ after-good h .sized

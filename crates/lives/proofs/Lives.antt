@@ -7,16 +7,25 @@ use mathlib.Core.Logic.{_↔_}
 use Prim.Native.Nat.{ℕ, _+_, _*_, _%_, _≤_, _<_}
 use native.Mathlib.Omega.{arith}
 use lib.ListN.{length, take, getD}
+use Rattle.aim.specs.declared.refusals.Refusal.the-variants as refusal
+use Rattle.reader.specs.Request.{requestRefusal}
 use Rattle.journal.specs.declared.Record.{Record}
 use Rattle.table.specs.Table.{opens}
 use Rattle.table.specs.Formed.{wellFormed}
+use Rattle.table.specs.declared.SatBox.{SatBox}
+use Rattle.steps.specs.Asked.{askedOf, listsOf}
+use Rattle.steps.specs.declared.cases.Case.the-variants.{Passed, Full}
 use Rattle.satbox.specs.Did.{bytesOf}
+use Rattle.satbox.specs.Closing.{sweeping}
+use Rattle.satbox.specs.Requests.{requested}
 use Rattle.satbox.proofs.Kept.{whole-formed}
 use Rattle.lives.specs.Calls.{Call, outcomeOf, refusedBy, lacksJournal}
 use Rattle.lives.specs.Runs.{Life, Lives, after}
+use Rattle.lives.specs.Openings.{PassesElse}
 use Rattle.lives.proofs.Journals.{counts-at, counts-next}
-use Rattle.lives.proofs.Holding.{after-good}
+use Rattle.lives.proofs.Holding.{after-good, swept-fed, swept-sized}
 use Rattle.lives.proofs.Refusals.{call-gated}
+use Rattle.lives.proofs.Rooms.{refused-exactly, passed-exactly}
 
 module _ (frontends size : ℕ) (j : List ℕ) (cs : List Call) where
   abbrev x : Life
@@ -61,6 +70,23 @@ module _ (frontends size : ℕ) (j : List ℕ) (cs : List Call) where
     -- 3. BYTES HELD PLUS 16 FOR EACH OPEN SESSION NEVER EXCEED C
     pub room-for-every-closing : x .satbox .held + 16 * opens (x .satbox) ≤ size
     room-for-every-closing = omega (arith, after-good h .whole .formed .fits .bound, after-good h .sized)
+
+    -- 5. AN OPENING THAT PASSES EVERY OTHER CHECK (`requestRefusal`: steps 1 to 10; `PassesElse`: the others), with any bytes s, at any clock,
+    module _ (s : List ℕ) (clock address draw : ℕ) where
+      -- on the box after expired sessions are closed,
+      abbrev u : SatBox
+      u = sweeping clock (x .satbox) .satbox
+
+      module _ (read : requestRefusal frontends s ≡ refusal.Passed) (else : PassesElse u (askedOf frontends s) (listsOf s)) where
+        -- is refused for journal room, step 18, exactly if bytes held, plus 16 for each open session, plus 32, exceed C; both directions
+        pub refused-for-room : (requested s clock address draw (x .satbox) .case ≡ Full) ↔ (size < u .held + 16 * opens u + 32)
+        unfolding requested
+        refused-for-room = refused-exactly frontends size s address draw u (swept-fed h clock) (swept-sized h clock) read else
+
+        -- and else it passes
+        pub passed-with-room : u .held + 16 * opens u + 32 ≤ size → requested s clock address draw (x .satbox) .case ≡ Passed
+        unfolding requested
+        passed-with-room = passed-exactly frontends size s address draw u (swept-fed h clock) (swept-sized h clock) read else
 
     -- 6. WHAT WAS COLLECTED, JOINED (`gathered`), FOLLOWED BY WHAT IS HELD, IS THE WHOLE HISTORY'S RECORDS: nothing is lost or written twice
     pub collected-and-held : x .gathered ++ take (x .satbox .held) (x .journal) ≡ bytesOf (x .history)
