@@ -3,4 +3,8 @@ pub mod Journals
 pub mod Holding
 pub mod Refusals
 pub mod Rooms
+pub mod Fates
+pub mod Sweeps
+pub mod Teardowns
+pub mod InCalls
 pub mod Lives

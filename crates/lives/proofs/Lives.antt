@@ -4,27 +4,32 @@ use mathlib.Core.Path.{_≡_, _∙_}
 use mathlib.Core.Bool.{true}
 use mathlib.Core.List.{List, _++_}
 use mathlib.Core.Logic.{_↔_}
-use Prim.Native.Nat.{ℕ, _+_, _*_, _%_, _≤_, _<_}
+use Prim.Native.Nat.{ℕ, _+_, _*_, _%_, _≤_, _<_, max}
 use native.Mathlib.Omega.{arith}
 use lib.ListN.{length, take, getD}
+use Rattle.aim.specs.declared.Method.the-variants.{Teardown}
 use Rattle.aim.specs.declared.refusals.Refusal.the-variants as refusal
-use Rattle.reader.specs.Request.{requestRefusal}
+use Rattle.reader.specs.Request.{methodOf, requestRefusal}
 use Rattle.journal.specs.declared.Record.{Record}
-use Rattle.table.specs.Table.{opens}
+use Rattle.table.specs.Table.{isOpen, opens, sessionAt, isOn, owns}
 use Rattle.table.specs.Formed.{wellFormed}
 use Rattle.table.specs.declared.SatBox.{SatBox}
+use Rattle.table.specs.declared.Outcome.the-variants.{Done}
 use Rattle.steps.specs.Asked.{askedOf, listsOf}
+use Rattle.steps.specs.Cases.{isPassed}
 use Rattle.steps.specs.declared.cases.Case.the-variants.{Passed, Full}
 use Rattle.satbox.specs.Did.{bytesOf}
-use Rattle.satbox.specs.Closing.{sweeping}
-use Rattle.satbox.specs.Requests.{requested}
+use Rattle.satbox.specs.Closing.{isExpired, sweeping}
+use Rattle.satbox.specs.Requests.{requested, replied}
 use Rattle.satbox.proofs.Kept.{whole-formed}
-use Rattle.lives.specs.Calls.{Call, outcomeOf, refusedBy, lacksJournal}
+use Rattle.lives.specs.Calls.{Lent, Call, request, outcomeOf, refusedBy, satboxAfter, recordsIn, lacksJournal}
 use Rattle.lives.specs.Runs.{Life, Lives, after}
+use Rattle.lives.specs.Closed.{Closed, placeNamedBy, Sweeps}
 use Rattle.lives.specs.Openings.{PassesElse}
 use Rattle.lives.proofs.Journals.{counts-at, counts-next}
 use Rattle.lives.proofs.Holding.{after-good, swept-fed, swept-sized}
 use Rattle.lives.proofs.Refusals.{call-gated}
+use Rattle.lives.proofs.InCalls.{expired-in, lost-in, torn-in, left-in}
 use Rattle.lives.proofs.Rooms.{refused-exactly, passed-exactly}
 
 module _ (frontends size : ℕ) (j : List ℕ) (cs : List Call) where
@@ -70,6 +75,42 @@ module _ (frontends size : ℕ) (j : List ℕ) (cs : List Call) where
     -- 3. BYTES HELD PLUS 16 FOR EACH OPEN SESSION NEVER EXCEED C
     pub room-for-every-closing : x .satbox .held + 16 * opens (x .satbox) ≤ size
     room-for-every-closing = omega (arith, after-good h .whole .formed .fits .bound, after-good h .sized)
+
+    -- 4. NO CLOSING IS EVER HELD BACK, in a request or a tick at any clock (`Sweeps`) that was not refused by number: of the sessions open before it
+    module _ (clock : ℕ) (c : Call) (sweeps : Sweeps clock c) (done : outcomeOf c (x .satbox) (x .journal) ≡ Done) where
+      -- each that has expired at the clock used is closed by its sweep, and its record is there (`Closed`; the records of the call are `recordsIn`,
+      -- which `since` then ends with),
+      pub expired-is-closed : (i : ℕ) → isExpired (max (x .satbox .clock) clock) (sessionAt (x .satbox) i) ≡ true
+          → Closed (x .satbox) i (sweeping clock (x .satbox) .satbox) (recordsIn c (x .satbox) (x .journal))
+      expired-is-closed = expired-in clock c sweeps (x .satbox) (x .journal) done (after-good h .whole)
+
+      -- and so is each whose stream loses its owner, at whatever place m
+      pub ownerless-is-closed : (i m : ℕ) → isOpen (sessionAt (x .satbox) i) ≡ true
+          → owns (sessionAt (x .satbox) i .stream) (sessionAt (x .satbox) m) ≡ true → isExpired (max (x .satbox .clock) clock) (sessionAt (x .satbox) m) ≡ true
+          → Closed (x .satbox) i (sweeping clock (x .satbox) .satbox) (recordsIn c (x .satbox) (x .journal))
+      ownerless-is-closed = lost-in clock c sweeps (x .satbox) (x .journal) done (after-good h .whole)
+
+    -- in a TEARDOWN that is answered 200, after the sweep, so is the session that it names (`placeNamedBy`)
+    module _ (s : List ℕ) (clock address draw : ℕ) (b : List ℕ) (l : Lent) (done : outcomeOf (request s clock address draw b l) (x .satbox) (x .journal) ≡ Done)
+        (tears : methodOf s ≡ Teardown) (passed : isPassed (requested s clock address draw (x .satbox) .case) ≡ true) where
+      abbrev v : SatBox
+      v = sweeping clock (x .satbox) .satbox
+
+      abbrev place : ℕ
+      place = placeNamedBy s v
+
+      abbrev c : Call
+      c = request s clock address draw b l
+
+      pub torn-down-is-closed : Closed v place (satboxAfter c (x .satbox) (x .journal)) (recordsIn c (x .satbox) (x .journal))
+      unfolding replied
+      torn-down-is-closed = torn-in s clock address draw b l (x .satbox) (x .journal) done (after-good h .whole) tears passed
+
+      -- and with an owner each that was on its stream
+      pub left-by-owner-is-closed : (sessionAt v place .owner ≡ 0 → ⊥) → (i : ℕ) → isOn (sessionAt v place .stream) (sessionAt v i) ≡ true
+          → Closed v i (satboxAfter c (x .satbox) (x .journal)) (recordsIn c (x .satbox) (x .journal))
+      unfolding replied
+      left-by-owner-is-closed = left-in s clock address draw b l (x .satbox) (x .journal) done (after-good h .whole) tears passed
 
     -- 5. AN OPENING THAT PASSES EVERY OTHER CHECK (`requestRefusal`: steps 1 to 10; `PassesElse`: the others), with any bytes s, at any clock,
     module _ (s : List ℕ) (clock address draw : ℕ) where
