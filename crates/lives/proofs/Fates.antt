@@ -137,7 +137,7 @@ module _ (cause i : ℕ) (t : SatBox) (c : Closable t i) where
       fates-then t (closeOne cause i t) (cascade id) (closeOne-fates cause i t c) (cascade-fates id (closeOne cause i t .satbox) (closeOne-fine t i c cause .roomy))
 
   -- after its cascade nobody is on the stream
-  gone : (id : ℕ) → count (isOn id) (cascade id (closeOne cause i t .satbox) .satbox .sessions) ≡ 0
+  pub gone : (id : ℕ) → count (isOn id) (cascade id (closeOne cause i t .satbox) .satbox .sessions) ≡ 0
   gone id =
       rw (cascade-sessions id (closeOne cause i t .satbox) (closeOne-fine t i c cause .roomy .places))
       (count-cleared-none (isOn id) noSession refl (closeOne cause i t .satbox .sessions))

@@ -7,4 +7,9 @@ pub mod Fates
 pub mod Sweeps
 pub mod Teardowns
 pub mod InCalls
+pub mod Keepers
+pub mod Agreeing
+pub mod Seating
+pub mod Chains
+pub mod Watching
 pub mod Lives

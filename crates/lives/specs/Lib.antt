@@ -2,3 +2,5 @@ pub mod Calls
 pub mod Runs
 pub mod Openings
 pub mod Closed
+pub mod Audit
+pub mod Moments
