@@ -20,7 +20,7 @@ use Rattle.satbox.proofs.Closings.{closable, closeOne-fine}
 use Rattle.satbox.proofs.Keeping.{Whole, whole-roomy, sweepAt-whole, clock-whole}
 use Rattle.satbox.proofs.Runs.{upto-holds}
 use Rattle.lives.specs.Audit.{Agree}
-use Rattle.lives.specs.Moments.{clocked, restream, Leads, begun, quiet, noted}
+use Rattle.lives.specs.Moments.{clocked, restream, notes, Leads, begun, quiet, noted}
 use Rattle.lives.proofs.Fates.{gone}
 use Rattle.lives.proofs.Agreeing.{Single, agree-closed, agree-freed, agree-clock}
 
@@ -28,12 +28,12 @@ use Rattle.lives.proofs.Agreeing.{Single, agree-closed, agree-freed, ag
 pub leads-agree : {h k : List Record} {t u : SatBox} → Leads h t k u → Agree k u
 leads-agree (begun g) = g
 leads-agree (quiet p q g) = g
-leads-agree (noted kind cause s place after p g) = g
+leads-agree (noted p q g) = g
 
 pub leads-then : {h k l : List Record} {t u v : SatBox} → Leads h t k u → Leads k u l v → Leads h t l v
 leads-then p (begun g) = p
 leads-then p (quiet q c g) = quiet (leads-then p q) c g
-leads-then p (noted kind cause s place after q g) = noted kind cause s place after (leads-then p q) g
+leads-then p (noted q c g) = noted (leads-then p q) c g
 
 -- an operation that is such a chain, from every history that agrees with its table
 abbrev pub Watched : SatBox → Did → Type 0
@@ -55,7 +55,7 @@ watched-then t d f p q h g =
 -- ONE CLOSING
 one-watched : (cause i : ℕ) (t : SatBox) → Closable t i → Single t → Watched t (closeOne cause i t)
 unfolding closeOne
-one-watched cause i t c one h g = noted 3 cause (sessionAt t i) i noSession (begun g) (agree-closed h cause i t c one g)
+one-watched cause i t c one h g = noted (begun g) (notes 3 cause (sessionAt t i) i noSession) (agree-closed h cause i t c one g)
 
 -- THE CASCADE: there is room, and no number occurs twice
 record Steady (t : SatBox) : Type 0 where

@@ -12,4 +12,7 @@ pub mod Agreeing
 pub mod Seating
 pub mod Chains
 pub mod Watching
+pub mod Audits
+pub mod Answers
+pub mod LettingGo
 pub mod Lives

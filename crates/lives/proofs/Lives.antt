@@ -2,7 +2,7 @@
 -- `isCall`), of the box, the journal and the history after them (`after`, the fold `run` of the calls' meanings from a fresh box). Assumes nothing.
 use mathlib.Core.Path.{_≡_, _∙_}
 use mathlib.Core.Bool.{true}
-use mathlib.Core.List.{List, _++_}
+use mathlib.Core.List.{List, [], _++_}
 use mathlib.Core.Logic.{_↔_}
 use Prim.Native.Nat.{ℕ, _+_, _*_, _%_, _≤_, _<_, max}
 use native.Mathlib.Omega.{arith}
@@ -13,6 +13,8 @@ use Rattle.reader.specs.Request.{methodOf, requestRefusal}
 use Rattle.journal.specs.declared.Record.{Record}
 use Rattle.table.specs.Table.{isOpen, opens, sessionAt, isOn, owns}
 use Rattle.table.specs.Formed.{wellFormed}
+use Rattle.table.specs.Finding.{isHeld}
+use Rattle.table.specs.Made.{fresh}
 use Rattle.table.specs.declared.SatBox.{SatBox}
 use Rattle.table.specs.declared.Outcome.the-variants.{Done}
 use Rattle.steps.specs.Asked.{askedOf, listsOf}
@@ -26,10 +28,16 @@ use Rattle.lives.specs.Calls.{Lent, Call, request, outcomeOf, refusedBy,
 use Rattle.lives.specs.Runs.{Life, Lives, after}
 use Rattle.lives.specs.Closed.{Closed, placeNamedBy, Sweeps}
 use Rattle.lives.specs.Openings.{PassesElse}
+use Rattle.lives.specs.Audit.{letGo, audited, isTaken, isHolder, holds}
+use Rattle.lives.specs.Moments.{Leads, LetGo}
 use Rattle.lives.proofs.Journals.{counts-at, counts-next}
 use Rattle.lives.proofs.Holding.{after-good, swept-fed, swept-sized}
 use Rattle.lives.proofs.Refusals.{call-gated}
 use Rattle.lives.proofs.InCalls.{expired-in, lost-in, torn-in, left-in}
+use Rattle.lives.proofs.Chains.{leads-agree}
+use Rattle.lives.proofs.Audits.{after-leads}
+use Rattle.lives.proofs.Answers.{held-agrees}
+use Rattle.lives.proofs.LettingGo.{never-let-go, let-go}
 use Rattle.lives.proofs.Rooms.{refused-exactly, passed-exactly}
 
 module _ (frontends size : ℕ) (j : List ℕ) (cs : List Call) where
@@ -132,3 +140,21 @@ module _ (frontends size : ℕ) (j : List ℕ) (cs : List Call) where
     -- 6. WHAT WAS COLLECTED, JOINED (`gathered`), FOLLOWED BY WHAT IS HELD, IS THE WHOLE HISTORY'S RECORDS: nothing is lost or written twice
     pub collected-and-held : x .gathered ++ take (x .satbox .held) (x .journal) ≡ bytesOf (x .history)
     collected-and-held = rw (after-good h .text) (after-good h .whole-history)
+
+    -- 7. THE AUDITOR'S THREE QUESTIONS HAVE ANSWERS from the history alone (`audited`, which reads nothing but records):
+    -- the frontends held, which are those that the table's streams have;
+    pub held-frontends : (f : ℕ) → (f ≡ 0 → ⊥) → isHeld f (x .satbox .streams) ≡ isTaken (audited f (x .history))
+    held-frontends f z = held-agrees (x .history) (x .satbox) (after-good h .whole) (leads-agree (after-leads h)) f z
+
+    -- the session that owns each, which is the open session that owns its stream (`holds`);
+    pub owner-of-each : (f n : ℕ) → (f ≡ 0 → ⊥) → holds (x .satbox) f n ≡ isHolder n (audited f (x .history))
+    owner-of-each = leads-agree (after-leads h) .same
+
+    -- and for each that let go, when: at that record the table's session let it go, at that clock of the table (`LetGo`)
+    pub when-let-go : (f n clock : ℕ) → (f ≡ 0 → ⊥) → audited f (x .history) ≡ letGo n clock → LetGo [] (fresh frontends size) (x .history) (x .satbox) f n clock
+    when-let-go f n clock z e = let-go f n clock z (λ q. never-let-go q) (after-leads h) e
+
+    -- AT EVERY RECORD these agree with the table at that moment: the life is a chain of tables from the fresh box to this one, each record is written by
+    -- one step of it, and after each step the history so far and the table agree (`Leads`, `Agree`)
+    pub agree-at-every-record : Leads [] (fresh frontends size) (x .history) (x .satbox)
+    agree-at-every-record = after-leads h

@@ -31,7 +31,7 @@ use Rattle.promises.proofs.Passing.{served-by, tears-closable}
 use Rattle.promises.proofs.Requests.{answered-by}
 use Rattle.promises.proofs.Serving.{Alike}
 use Rattle.lives.specs.Audit.{Agree}
-use Rattle.lives.specs.Moments.{restream, replace, Leads, begun, quiet, noted}
+use Rattle.lives.specs.Moments.{restream, replace, notes, Leads, begun, quiet, noted}
 use Rattle.lives.proofs.Agreeing.{agree-fed, agree-replaced}
 use Rattle.lives.proofs.Seating.{agree-joined, agree-new, agree-opened}
 use Rattle.lives.proofs.Chains.{Watched, watched-quiet, watched-nothing, watched-then, closing-watched, sweeping-watched}
@@ -42,7 +42,7 @@ unfolding joining seated
 joining-watched id client t =
     let s = guest 0 id client t in
     cond-keeps (Watched t) (canJoin id t) (seated 2 s t) (nothing t)
-    (λ e h g. noted 2 0 s (lowestPlace (t .sessions)) s (begun g) (agree-joined h id client t e g)) (λ e. watched-nothing t)
+    (λ e h g. noted (begun g) (notes 2 0 s (lowestPlace (t .sessions)) s) (agree-joined h id client t e g)) (λ e. watched-nothing t)
 
 opening-watched : (m : Stream) (client : Client) (t : SatBox) → client .draw < 4294967296 → Whole t → Watched t (opening m client t)
 unfolding opening seated restreamed
@@ -50,7 +50,7 @@ opening-watched m client t short w =
     let id = lowestId (t .streams) in
     let s = guest 1 id client t in
     cond-keeps (Watched t) (canOpen (m .frontend) t) (seated 1 s (restreamed id m t)) (nothing t)
-    (λ e h g. noted 1 0 s (lowestPlace (t .sessions)) s (quiet (begun g) (restream id m) (agree-new h m client t short e w g)) (agree-opened h m client t short e w g))
+    (λ e h g. noted (quiet (begun g) (restream id m) (agree-new h m client t short e w g)) (notes 1 0 s (lowestPlace (t .sessions)) s) (agree-opened h m client t short e w g))
     (λ e. watched-nothing t)
 
 -- A SESSION IS CHANGED in its place
