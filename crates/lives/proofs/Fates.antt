@@ -172,7 +172,7 @@ upto-fates t w n h = upto-holds Whole Fates fates-nothing fates-then sweepAt 32 
 abbrev isAged : ℕ → SatBox → ℕ → Bool
 isAged clock t k = isExpired clock (sessionAt t k)
 
-aged-after : (t : SatBox) (d : Did) (s after : Session) → isExpired (t .clock) s ≡ false → Fate t d s after → isExpired (t .clock) after ≡ false
+pub aged-after : (t : SatBox) (d : Did) (s after : Session) → isExpired (t .clock) s ≡ false → Fate t d s after → isExpired (t .clock) after ≡ false
 aged-after t d s after y (stays e k) = subst (λ (x : Session). isExpired (t .clock) x ≡ false) (sym e) y
 aged-after t d s after y (leaves e some n) = subst (λ (x : Session). isExpired (t .clock) x ≡ false) (sym e) refl
 

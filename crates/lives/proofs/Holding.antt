@@ -49,7 +49,9 @@ pub record Good (frontends size : ℕ) (x : Life) : Type 0 where
   pub text : take (x .satbox .held) (x .journal) ≡ bytesOf (x .since)
   pub sequence : Counts-on 0 (x .history) (x .satbox .sequence)
   pub recorded : all isRecord (x .history) ≡ true
-  pub whole-history : x .gathered ++ bytesOf (x .since) ≡ bytesOf (x .history)
+  pub past : List Record
+  pub split : x .history ≡ past ++ x .since
+  pub gathered : x .gathered ≡ bytesOf past
 
 -- A FRESH BOX
 pub born-good : (frontends size : ℕ) (j : List ℕ) → areSizes frontends size ≡ true → length j ≡ size → Good frontends size (born frontends size j)
@@ -64,7 +66,9 @@ born-good frontends size j e h =
       text = refl;
       sequence = refl;
       recorded = refl;
-      whole-history = refl;
+      past = [];
+      split = refl;
+      gathered = refl;
     }
 
 -- what is known of an operation that a call does
@@ -116,7 +120,9 @@ module _ {frontends size : ℕ} {x : Life} (g : Good frontends size x) where
         text = rw append-nil (g .text);
         sequence = rw append-nil (g .sequence);
         recorded = rw append-nil (g .recorded);
-        whole-history = simp append-nil (g .whole-history);
+        past = g .past;
+        split = simp append-nil (g .split);
+        gathered = rw append-nil (g .gathered);
       }
 
   done-good : (d : Did) → Works (x .satbox) d → Good frontends size (worked own Done d x)
@@ -136,7 +142,9 @@ module _ {frontends size : ℕ} {x : Life} (g : Good frontends size x) where
         text = rw (held, take-written (x .journal) (t .held) new fits, g .text, bytes-append) refl;
         sequence = counts-both 0 (t .sequence) (d .satbox .sequence) (x .history) (d .records) (g .sequence) (w .counted .sequence);
         recorded = all-append (x .history) (d .records) (g .recorded) (w .recorded);
-        whole-history = rw (append-nil, bytes-append (x .since) (d .records), ← append-assoc, g .whole-history, bytes-append (x .history) (d .records)) refl;
+        past = g .past;
+        split = rw (g .split) (append-assoc (g .past) (x .since) (d .records));
+        gathered = rw append-nil (g .gathered);
       }
 
   worked-good : (o : Outcome) (d : Did) → Works (x .satbox) d → Good frontends size (worked own o d x)
@@ -160,7 +168,9 @@ module _ {frontends size : ℕ} {x : Life} (g : Good frontends size x) where
         text = refl;
         sequence = rw append-nil (g .sequence);
         recorded = rw append-nil (g .recorded);
-        whole-history = simp append-nil (rw (take-at (take (t .held) (x .journal)) (drop (t .held) b) (t .held) n, g .text) (g .whole-history));
+        past = x .history;
+        split = refl;
+        gathered = rw (take-at (take (t .held) (x .journal)) (drop (t .held) b) (t .held) n, g .text, g .split, bytes-append (g .past) (x .since), g .gathered);
       }
 
 -- a call that is lent other bytes than the box's journal, of another length, is refused

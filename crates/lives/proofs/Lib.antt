@@ -5,6 +5,7 @@ pub mod Refusals
 pub mod Rooms
 pub mod Fates
 pub mod Sweeps
+pub mod Young
 pub mod Teardowns
 pub mod InCalls
 pub mod Keepers

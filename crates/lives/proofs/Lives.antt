@@ -1,7 +1,7 @@
 -- THE LIFE OF A BOX. For every F and C in range, every first journal of C bytes and every sequence of calls that a caller may make (`Lives`,
 -- `isCall`), of the box, the journal and the history after them (`after`, the fold `run` of the calls' meanings from a fresh box). Assumes nothing.
-use mathlib.Core.Path.{_≡_, _∙_}
-use mathlib.Core.Bool.{true}
+use mathlib.Core.Path.{_≡_, sym, _∙_, ap}
+use mathlib.Core.Bool.{true, false}
 use mathlib.Core.List.{List, [], _++_}
 use mathlib.Core.Logic.{_↔_}
 use Prim.Native.Nat.{ℕ, _+_, _*_, _%_, _≤_, _<_, max}
@@ -23,16 +23,18 @@ use Rattle.steps.specs.declared.cases.Case.the-variants.{Passed, Full}
 use Rattle.satbox.specs.Did.{bytesOf}
 use Rattle.satbox.specs.Closing.{isExpired, sweeping}
 use Rattle.satbox.specs.Requests.{requested, replied}
+use Rattle.satbox.proofs.DoesLaws.{bytes-append}
 use Rattle.satbox.proofs.Kept.{whole-formed}
-use Rattle.lives.specs.Calls.{Lent, Call, request, outcomeOf, refusedBy, satboxAfter, recordsIn, lacksJournal}
-use Rattle.lives.specs.Runs.{Life, Lives, after}
+use Rattle.lives.specs.Calls.{Lent, Call, request, outcomeOf, refusedBy, satboxAfter, journalAfter, recordsIn, uncollected, lacksJournal, isCall}
+use Rattle.lives.specs.Runs.{Life, live, Lives, after}
 use Rattle.lives.specs.Closed.{Closed, placeNamedBy, Sweeps}
 use Rattle.lives.specs.Openings.{PassesElse}
 use Rattle.lives.specs.Audit.{letGo, audited, isTaken, isHolder, holds}
 use Rattle.lives.specs.Moments.{Leads, LetGo}
 use Rattle.lives.proofs.Journals.{counts-at, counts-next}
-use Rattle.lives.proofs.Holding.{after-good, swept-fed, swept-sized}
+use Rattle.lives.proofs.Holding.{live-good, after-good, swept-fed, swept-sized}
 use Rattle.lives.proofs.Refusals.{call-gated}
+use Rattle.lives.proofs.Young.{young-after}
 use Rattle.lives.proofs.InCalls.{expired-in, lost-in, torn-in, left-in}
 use Rattle.lives.proofs.Chains.{leads-agree}
 use Rattle.lives.proofs.Audits.{after-leads}
@@ -80,6 +82,13 @@ module _ (frontends size : ℕ) (j : List ℕ) (cs : List Call) where
     pub sequence-to-come : x .satbox .sequence ≡ length (x .history) % 65536
     sequence-to-come = counts-next 0 (x .satbox .sequence) (x .history) (omega arith) (after-good h .sequence) ∙ omega arith
 
+    -- A call's own records stand behind those of the calls before it (`uncollected`: those that are not collected by it)
+    pub call-writes-its-records : (c : Call) → isCall size c ≡ true
+        → take (satboxAfter c (x .satbox) (x .journal) .held) (journalAfter c (x .satbox) (x .journal))
+        ≡ bytesOf (uncollected c (x .satbox) (x .journal) (x .since) ++ recordsIn c (x .satbox) (x .journal))
+    unfolding live
+    call-writes-its-records c e = live-good (after-good h) c e .text
+
     -- 3. BYTES HELD PLUS 16 FOR EACH OPEN SESSION NEVER EXCEED C
     pub room-for-every-closing : x .satbox .held + 16 * opens (x .satbox) ≤ size
     room-for-every-closing = omega (arith, after-good h .whole .formed .fits .bound, after-good h .sized)
@@ -97,6 +106,10 @@ module _ (frontends size : ℕ) (j : List ℕ) (cs : List Call) where
           → owns (sessionAt (x .satbox) i .stream) (sessionAt (x .satbox) m) ≡ true → isExpired (max (x .satbox .clock) clock) (sessionAt (x .satbox) m) ≡ true
           → Closed (x .satbox) i (sweeping clock (x .satbox) .satbox) (recordsIn c (x .satbox) (x .journal))
       ownerless-is-closed = lost-in clock c sweeps (x .satbox) (x .journal) done (after-good h .whole)
+
+      -- and after the call nothing that is open has expired
+      pub none-expired-is-open : (i : ℕ) → isExpired (max (x .satbox .clock) clock) (sessionAt (satboxAfter c (x .satbox) (x .journal)) i) ≡ false
+      none-expired-is-open = young-after sweeps (x .satbox) (x .journal) done (after-good h .whole)
 
     -- in a TEARDOWN that is answered 200, after the sweep, so is the session that it names (`placeNamedBy`)
     module _ (s : List ℕ) (clock address draw : ℕ) (b : List ℕ) (l : Lent) (done : outcomeOf (request s clock address draw b l) (x .satbox) (x .journal) ≡ Done)
@@ -139,7 +152,13 @@ module _ (frontends size : ℕ) (j : List ℕ) (cs : List Call) where
 
     -- 6. WHAT WAS COLLECTED, JOINED (`gathered`), FOLLOWED BY WHAT IS HELD, IS THE WHOLE HISTORY'S RECORDS: nothing is lost or written twice
     pub collected-and-held : x .gathered ++ take (x .satbox .held) (x .journal) ≡ bytesOf (x .history)
-    collected-and-held = rw (after-good h .text) (after-good h .whole-history)
+    collected-and-held =
+        let g = after-good h in
+        rw (g .text, g .gathered, ← bytes-append) (ap bytesOf (sym (g .split)))
+
+    -- and collected were the records before the last collection, held are those since
+    pub collected-then-held : (past : List Record) × (x .history ≡ past ++ x .since) × (x .gathered ≡ bytesOf past)
+    collected-then-held = let g = after-good h in (g .past, g .split, g .gathered)
 
     -- 7. THE AUDITOR'S THREE QUESTIONS HAVE ANSWERS from the history alone (`audited`, which reads nothing but records):
     -- the frontends held, which are those that the table's streams have;
