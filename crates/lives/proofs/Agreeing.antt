@@ -1,17 +1,14 @@
 -- A history and a table that agree about the frontends agree still after each change of the table, with its record. Assumes nothing.
 use mathlib.Core.Path.{_≡_, refl, sym, _∙_, ap, subst}
-use mathlib.Core.Bool.{Bool, true, false, not, cond, _&&_, _||_}
 use mathlib.Core.List.{List, [], _∷_, _++_}
-use Prim.Native.Nat.{ℕ, zero, suc, _≤_, _<_}
+use Prim.Native.Nat.{ℕ, _≤_, _<_}
 use native.Mathlib.Omega.{arith}
-use lib.Dec.{eqb}
-use lib.ListN.{length, getD, set}
-use borrow.Author.Tests.{eq-eqb, ne-eqb, eqb-true, eqb-false}
-use Rattle.scan.proofs.Bools.{never, and-both, Case, is, isnt, case, Same, same, other, sames, cond-keeps}
+use lib.ListN.{length, set}
+use Rattle.scan.proofs.Bools.{Same, same, other, sames}
 use Rattle.journal.specs.declared.Record.{Record}
 use Rattle.stream.specs.declared.Stream.{Stream}
 use Rattle.table.specs.Counts.{any, count}
-use Rattle.table.specs.Table.{noSession, has, sessionAt, streamIn, streamOf, withStream, isOn}
+use Rattle.table.specs.Table.{noSession, has, sessionAt, streamOf, isOn}
 use Rattle.table.specs.declared.Session.{Session}
 use Rattle.table.specs.declared.SatBox.{SatBox}
 use Rattle.satbox.specs.Did.{restreamed, reseated, noting, recordOf}
@@ -20,8 +17,8 @@ use Rattle.satbox.specs.Closing.{closeOne, atClock}
 use Rattle.satbox.specs.Calls.{emptied}
 use Rattle.satbox.specs.Serving.{replaced}
 use Rattle.promises.proofs.Serving.{Alike}
-use Rattle.lives.specs.Audit.{Frontend, unheld, closedBy, notedBy, audited, isHolder, keeps, holds, Agree}
-use Rattle.lives.proofs.Keepers.{audited-more, noted-none, noted-others, noted-joined, closed-keeps, closed-kept, closed-kept-others, freed-keeps, fed-keeps, alike-keeps}
+use Rattle.lives.specs.Audit.{unheld, notedBy, audited, isHolder, keeps, holds, Agree}
+use Rattle.lives.proofs.Keepers.{audited-more, noted-none, noted-others, closed-keeps, closed-kept, closed-kept-others, freed-keeps, fed-keeps, alike-keeps}
 
 -- no two open sessions have one number
 abbrev pub Single : SatBox → Type 0

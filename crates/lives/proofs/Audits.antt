@@ -16,7 +16,7 @@ use Rattle.satbox.specs.Closing.{sweeping}
 use Rattle.satbox.specs.Calls.{ifDone, tickOutcome, collectOutcome, ticked, emptied, collected}
 use Rattle.satbox.specs.Requests.{requestOutcome, requested, replied}
 use Rattle.lives.specs.Calls.{lent, Call, request, tick, collect, order, isShort, isCall}
-use Rattle.lives.specs.Runs.{Life, born, live, run, Lives, after}
+use Rattle.lives.specs.Runs.{Life, live, run, Lives, after}
 use Rattle.lives.specs.Audit.{Agree}
 use Rattle.lives.specs.Moments.{empty, Leads, begun, quiet}
 use Rattle.lives.proofs.Holding.{Good, born-good, live-good}
@@ -38,7 +38,7 @@ emptied-leads Done h t g = watched-quiet (quiet (begun g) empty (agree-emptied t
 emptied-leads (Refused r) h t g = watched-quiet (begun g)
 
 module _ {frontends size : ℕ} {x : Life} (g : Good frontends size x) (a : Agree (x .history) (x .satbox)) where
-  live-leads : (c : Call) → isCall size c ≡ true → Leads (x .history) (x .satbox) (live c x .history) (live c x .satbox)
+  pub live-leads : (c : Call) → isCall size c ≡ true → Leads (x .history) (x .satbox) (live c x .history) (live c x .satbox)
   unfolding live replied ticked collected
   live-leads (request s clock address draw b l) e =
       let short = ltb-true draw 4294967296 (and-both (isShort draw) _ (and-both (isShort address) _ (and-both (isShort clock) _ e .1) .1) .0) in

@@ -1,8 +1,7 @@
 -- Closings and the sweep table by table: after each record the history and the table agree about the frontends. Assumes nothing.
-use mathlib.Core.Path.{_≡_, refl, sym, _∙_, subst}
-use mathlib.Core.Bool.{Bool, true}
-use mathlib.Core.List.{List, [], _∷_, _++_, append-assoc, append-nil}
-use Prim.Native.Nat.{ℕ, _≤_, _<_}
+use mathlib.Core.Path.{_≡_, sym, subst}
+use mathlib.Core.List.{List, [], _++_, append-assoc, append-nil}
+use Prim.Native.Nat.{ℕ, _<_}
 use native.Mathlib.Omega.{arith}
 use lib.Dec.{eqb}
 use borrow.Author.Tests.{ne-eqb}
@@ -13,7 +12,7 @@ use Rattle.table.specs.Counts.{count}
 use Rattle.table.specs.Table.{noSession, has, sessionAt, isOn}
 use Rattle.table.specs.declared.SatBox.{SatBox}
 use Rattle.table.proofs.Counts.{bit-no, count-set-le}
-use Rattle.satbox.specs.Did.{Did, nothing, then, restreamed, reseated, noting}
+use Rattle.satbox.specs.Did.{Did, nothing, then, reseated, noting}
 use Rattle.satbox.specs.Does.{Roomy, Closable}
 use Rattle.satbox.specs.Closing.{closeOne, closeOn, cascade, free, closing, isExpired, sweepAt, swept, atClock, sweeping}
 use Rattle.satbox.proofs.Closings.{closable, closeOne-fine}

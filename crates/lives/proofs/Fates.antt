@@ -1,27 +1,27 @@
 -- What becomes of each session in a closing and in a sweep: it stays as it is, or it leaves and its closing's record is written. Assumes nothing.
 use mathlib.Core.Path.{_≡_, refl, sym, _∙_, ap, subst}
-use mathlib.Core.Bool.{Bool, true, false, not, cond, _&&_, _||_}
+use mathlib.Core.Bool.{Bool, true, false}
 use mathlib.Core.List.{List, [], _∷_, _++_, map}
-use Prim.Native.Nat.{ℕ, zero, suc, _+_, _≤_, _<_}
+use Prim.Native.Nat.{ℕ, zero, suc, _≤_, _<_}
 use native.Mathlib.Omega.{arith}
 use lib.Dec.{eqb}
-use lib.ListN.{length, getD, set}
-use lib.Seq.{getD-set-other, getD-set-same}
-use borrow.Author.Tests.{eq-eqb, ne-eqb, eqb-true}
-use Rattle.scan.proofs.Bools.{never, and-both, both, or-right, Case, is, isnt, case, Same, same, other, sames, cond-keeps, by-test}
+use lib.ListN.{getD, set}
+use lib.Seq.{getD-set-other}
+use borrow.Author.Tests.{eq-eqb, ne-eqb}
+use Rattle.scan.proofs.Bools.{never, or-right, Case, is, isnt, case, Same, same, other, sames, cond-keeps, by-test}
 use Rattle.journal.specs.declared.Record.{Record}
 use Rattle.stream.specs.Streams.{noStream, pastStream}
 use Rattle.stream.specs.declared.Stream.{Stream}
 use Rattle.table.specs.Counts.{any, count}
-use Rattle.table.specs.Table.{noSession, isOpen, sessionAt, streamIn, streamOf, withStream, isOn, owns}
+use Rattle.table.specs.Table.{noSession, sessionAt, streamIn, streamOf, withStream, isOn}
 use Rattle.table.specs.declared.Session.{Session}
 use Rattle.table.specs.declared.SatBox.{SatBox}
 use Rattle.table.proofs.Counts.{getD-set-here, count-zero-at, count-cleared-none}
 use Rattle.table.proofs.Changes.{clear}
 use Rattle.satbox.specs.Did.{Did, nothing, then, when, upto, restreamed, reseated, noting}
 use Rattle.satbox.specs.Does.{Roomy, Closable}
-use Rattle.satbox.specs.Closing.{closeOne, closeOn, cascade, free, closing, isExpired, sweepAt, swept}
-use Rattle.satbox.proofs.Closings.{closable, closeOne-fine, closeOn-fine, started-fine}
+use Rattle.satbox.specs.Closing.{closeOne, closeOn, cascade, free, closing, isExpired, sweepAt}
+use Rattle.satbox.proofs.Closings.{closable, closeOne-fine, closeOn-fine}
 use Rattle.satbox.proofs.Keeping.{Whole, whole-roomy, sweepAt-whole, cascade-sessions}
 use Rattle.satbox.proofs.Runs.{upto-keeps, upto-holds}
 use Rattle.lives.specs.Closed.{isClosing}

@@ -1,22 +1,20 @@
 -- What every life keeps, and that each call keeps it: the table is well formed, and the journal, what was collected and the sequence are
 -- those of the history. Assumes nothing.
-use mathlib.Core.Path.{_≡_, refl, sym, _∙_, ap}
-use mathlib.Core.Bool.{Bool, true, false, not, _&&_}
+use mathlib.Core.Path.{_≡_, refl, _∙_}
+use mathlib.Core.Bool.{Bool, true, false}
 use mathlib.Core.List.{List, [], _∷_, _++_, append-assoc, append-nil}
-use Prim.Native.Nat.{ℕ, _+_, _*_, _≤_, _<_, max}
+use Prim.Native.Nat.{ℕ, _+_, _*_, _≤_, _<_}
 use native.Mathlib.Omega.{arith}
-use lib.Dec.{eqb, ltb}
 use lib.ListN.{length, take, drop, length-append}
 use lib.Seq.{take-at, length-take-le}
-use borrow.Author.Tests.{eqb-true, ltb-true, not-true}
+use borrow.Author.Tests.{ltb-true, not-true}
 use Rattle.scan.specs.Lists.{all}
-use Rattle.scan.proofs.Bools.{never, and-both, both, Case, is, isnt, case}
+use Rattle.scan.proofs.Bools.{never, and-both}
 use Rattle.digits.specs.Wrote.{written}
 use Rattle.digits.proofs.Writes.{written-length}
 use Rattle.journal.specs.Records.{isRecord}
 use Rattle.journal.specs.declared.Record.{Record}
 use Rattle.table.specs.Formed.{areSizes, wellFormed}
-use Rattle.table.specs.Made.{fresh}
 use Rattle.table.specs.declared.SatBox.{SatBox}
 use Rattle.table.specs.declared.Refusal.{Refusal}
 use Rattle.table.specs.declared.Refusal.the-variants.{Table, Journal}
@@ -36,7 +34,8 @@ use Rattle.promises.proofs.Reading.{request-whole, request-recorded}
 use Rattle.promises.proofs.Written.{Counted, requested-counted}
 use Rattle.lives.specs.Calls.{Lent, own, other, lent, ownAfter, Call, request, tick, collect, order, isShort, isLent, isCall}
 use Rattle.lives.specs.Runs.{Life, born, live, run, Lives, after}
-use Rattle.lives.proofs.Settings.{Set, sweeping-set, requested-set}
+use Rattle.lives.proofs.Settings.{sweeping-set, requested-set}
+use Rattle.lives.proofs.Fitting.{all-both}
 use Rattle.lives.proofs.Journals.{take-written, counts-both}
 
 pub record Good (frontends size : ℕ) (x : Life) : Type 0 where
@@ -103,10 +102,6 @@ emptiedInto l o b x =
       gathered = x .gathered ++ take (ifDone o held 0) (ifDone o (take held (lent l (x .journal)) ++ drop held b) b);
     }
 
-all-append : (a b : List Record) → all isRecord a ≡ true → all isRecord b ≡ true → all isRecord (a ++ b) ≡ true
-all-append [] b p q = q
-all-append (r ∷ a) b p q = let e = and-both (isRecord r) (all isRecord a) p in both (e .0) (all-append a b (e .1) q)
-
 module _ {frontends size : ℕ} {x : Life} (g : Good frontends size x) where
   same-good : Good frontends size (record { satbox = x .satbox; journal = x .journal; history = x .history ++ []; since = x .since ++ []; gathered = x .gathered ++ [] })
   same-good =
@@ -141,7 +136,7 @@ module _ {frontends size : ℕ} {x : Life} (g : Good frontends size x) where
         held = rw length-append (omega (arith, w .counted .held, g .held));
         text = rw (held, take-written (x .journal) (t .held) new fits, g .text, bytes-append) refl;
         sequence = counts-both 0 (t .sequence) (d .satbox .sequence) (x .history) (d .records) (g .sequence) (w .counted .sequence);
-        recorded = all-append (x .history) (d .records) (g .recorded) (w .recorded);
+        recorded = all-both isRecord (x .history) (d .records) (g .recorded) (w .recorded);
         past = g .past;
         split = rw (g .split) (append-assoc (g .past) (x .since) (d .records));
         gathered = rw append-nil (g .gathered);

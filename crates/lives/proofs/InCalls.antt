@@ -1,5 +1,5 @@
 -- What a sweep and a TEARDOWN close is closed in the call that they are part of. Assumes nothing.
-use mathlib.Core.Path.{_≡_, refl, sym, subst}
+use mathlib.Core.Path.{_≡_, sym, subst}
 use mathlib.Core.Bool.{Bool, true}
 use mathlib.Core.List.{List, []}
 use Prim.Native.Nat.{ℕ, max}
@@ -13,11 +13,11 @@ use Rattle.table.specs.declared.Outcome.{Outcome}
 use Rattle.table.specs.declared.Outcome.the-variants.{Done}
 use Rattle.steps.specs.Cases.{isPassed}
 use Rattle.satbox.specs.Closing.{isExpired, sweeping, atClock}
-use Rattle.satbox.specs.Calls.{ifDone, ticked}
+use Rattle.satbox.specs.Calls.{ifDone}
 use Rattle.satbox.specs.Requests.{requestOutcome, answered, requested, replied}
 use Rattle.satbox.proofs.Keeping.{Whole, clock-whole}
 use Rattle.satbox.proofs.Kept.{sweeping-whole}
-use Rattle.lives.specs.Calls.{Lent, lent, Call, request, tick, outcomeOf, satboxAfter, recordsIn}
+use Rattle.lives.specs.Calls.{Lent, lent, Call, request, outcomeOf, satboxAfter, recordsIn}
 use Rattle.lives.specs.Closed.{isClosing, Closed, placeNamedBy, Sweeps, in-request, in-tick}
 use Rattle.lives.proofs.Fates.{any-left, any-right}
 use Rattle.lives.proofs.Sweeps.{expired-closed, lost-closed}

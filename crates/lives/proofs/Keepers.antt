@@ -1,8 +1,8 @@
 -- Who holds which frontend in a table, and what each change of the sessions and the streams does to that. Assumes nothing.
 use mathlib.Core.Path.{_≡_, refl, sym, _∙_, ap, subst}
-use mathlib.Core.Bool.{Bool, true, false, not, cond, _&&_, _||_, and-false}
+use mathlib.Core.Bool.{Bool, true, false, cond, _&&_, _||_, and-false}
 use mathlib.Core.List.{List, [], _∷_, _++_}
-use Prim.Native.Nat.{ℕ, zero, suc, _+_, _≤_, _<_}
+use Prim.Native.Nat.{ℕ, zero, suc, _≤_, _<_}
 use native.Mathlib.Omega.{arith}
 use lib.Dec.{eqb}
 use lib.ListN.{length, getD, set}
@@ -11,8 +11,8 @@ use Rattle.scan.proofs.Bools.{never, and-both, Case, is, isnt, case, Same, same
 use Rattle.journal.specs.declared.Record.{Record}
 use Rattle.stream.specs.Streams.{pastStream}
 use Rattle.stream.specs.declared.Stream.{Stream}
-use Rattle.table.specs.Counts.{bit, any, count}
-use Rattle.table.specs.Table.{noSession, has, isOpen, streamIn, withStream, isOn, owns}
+use Rattle.table.specs.Counts.{any, count}
+use Rattle.table.specs.Table.{noSession, has, streamIn, withStream, isOn, owns}
 use Rattle.table.specs.declared.Session.{Session}
 use Rattle.table.proofs.Counts.{bit-no, bit-yes, count-set, count-zero-at, none-count, getD-set-alike}
 use Rattle.promises.proofs.Serving.{Alike}

@@ -1,5 +1,6 @@
 pub mod Settings
 pub mod Journals
+pub mod Fitting
 pub mod Holding
 pub mod Refusals
 pub mod Rooms
@@ -16,4 +17,5 @@ pub mod Watching
 pub mod Audits
 pub mod Answers
 pub mod LettingGo
+pub mod ReadingBack
 pub mod Lives

@@ -10,7 +10,9 @@ use lib.ListN.{length, take, getD}
 use Rattle.aim.specs.declared.Method.the-variants.{Teardown}
 use Rattle.aim.specs.declared.refusals.Refusal.the-variants as refusal
 use Rattle.reader.specs.Request.{methodOf, requestRefusal}
+use Rattle.journal.specs.Calls.{readAt}
 use Rattle.journal.specs.declared.Record.{Record}
+use Rattle.journal.specs.declared.Reading.the-variants.{Sound}
 use Rattle.table.specs.Table.{isOpen, opens, sessionAt, isOn, owns}
 use Rattle.table.specs.Formed.{wellFormed}
 use Rattle.table.specs.Finding.{isHeld}
@@ -37,9 +39,10 @@ use Rattle.lives.proofs.Refusals.{call-gated}
 use Rattle.lives.proofs.Young.{young-after}
 use Rattle.lives.proofs.InCalls.{expired-in, lost-in, torn-in, left-in}
 use Rattle.lives.proofs.Chains.{leads-agree}
-use Rattle.lives.proofs.Audits.{after-leads}
+use Rattle.lives.proofs.Audits.{live-leads, after-leads}
 use Rattle.lives.proofs.Answers.{held-agrees}
 use Rattle.lives.proofs.LettingGo.{never-let-go, let-go}
+use Rattle.lives.proofs.ReadingBack.{read-back, after-fit}
 use Rattle.lives.proofs.Rooms.{refused-exactly, passed-exactly}
 
 module _ (frontends size : ℕ) (j : List ℕ) (cs : List Call) where
@@ -160,6 +163,13 @@ module _ (frontends size : ℕ) (j : List ℕ) (cs : List Call) where
     pub collected-then-held : (past : List Record) × (x .history ≡ past ++ x .since) × (x .gathered ≡ bytesOf past)
     collected-then-held = let g = after-good h in (g .past, g .split, g .gathered)
 
+    -- and whoever has these bytes has the history: read at each place (`journal/specs/Calls.readAt`), they are its records
+    pub history-is-read-back : (i : ℕ) (past : Record) → i < length (x .history)
+        → readAt (x .gathered ++ take (x .satbox .held) (x .journal)) i ≡ Sound (getD (x .history) i past)
+    history-is-read-back i past l =
+        let g = after-good h in
+        rw collected-and-held (read-back (x .history) (x .satbox .sequence) (g .recorded) (after-fit h) (g .sequence) i past l)
+
     -- 7. THE AUDITOR'S THREE QUESTIONS HAVE ANSWERS from the history alone (`audited`, which reads nothing but records):
     -- the frontends held, which are those that the table's streams have;
     pub held-frontends : (f : ℕ) → (f ≡ 0 → ⊥) → isHeld f (x .satbox .streams) ≡ isTaken (audited f (x .history))
@@ -177,3 +187,7 @@ module _ (frontends size : ℕ) (j : List ℕ) (cs : List Call) where
     -- one step of it, and after each step the history so far and the table agree (`Leads`, `Agree`)
     pub agree-at-every-record : Leads [] (fresh frontends size) (x .history) (x .satbox)
     agree-at-every-record = after-leads h
+
+    -- and so is each call of it, from the box before it to the box after it
+    pub agree-within-a-call : (c : Call) → isCall size c ≡ true → Leads (x .history) (x .satbox) (live c x .history) (live c x .satbox)
+    agree-within-a-call c e = live-leads (after-good h) (leads-agree (after-leads h)) c e

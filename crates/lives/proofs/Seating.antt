@@ -1,20 +1,20 @@
 -- A history and a table that agree about the frontends agree still after an opening, with its record. Assumes nothing.
 use mathlib.Core.Path.{_≡_, refl, sym, _∙_, ap, subst}
-use mathlib.Core.Bool.{Bool, true, false, not, cond, _&&_, _||_, and-false, and-true, or-false}
-use mathlib.Core.List.{List, [], _∷_, _++_}
-use Prim.Native.Nat.{ℕ, zero, suc, _≤_, _<_}
+use mathlib.Core.Bool.{Bool, true, false, _||_, and-false, and-true, or-false}
+use mathlib.Core.List.{List, _++_}
+use Prim.Native.Nat.{ℕ, zero, suc, _<_}
 use native.Mathlib.Omega.{arith}
 use lib.Dec.{eqb}
-use lib.ListN.{length, getD, set}
+use lib.ListN.{length, getD}
 use lib.Seq.{getD-set-same}
 use borrow.Author.Tests.{eq-eqb, ne-eqb, eqb-true, eqb-false, ltb-true}
 use Rattle.scan.specs.Lists.{first}
-use Rattle.scan.proofs.Bools.{never, and-both, Case, is, isnt, case}
+use Rattle.scan.proofs.Bools.{and-both, Case, is, isnt, case}
 use Rattle.journal.specs.declared.Record.{Record}
 use Rattle.stream.specs.Streams.{pastStream}
 use Rattle.stream.specs.declared.Stream.{Stream}
 use Rattle.table.specs.Counts.{any, count}
-use Rattle.table.specs.Table.{noSession, has, isFree, sessionAt, streamIn, streamOf, isDead, isOn, owns}
+use Rattle.table.specs.Table.{noSession, isFree, sessionAt, streamIn, streamOf, isDead, isOn}
 use Rattle.table.specs.Finding.{lowestPlace, lowestId}
 use Rattle.table.specs.declared.Session.{Session}
 use Rattle.table.specs.declared.SatBox.{SatBox}
@@ -26,7 +26,7 @@ use Rattle.satbox.specs.Opening.{hasPlace, guest, seating, canJoin, canOpen}
 use Rattle.satbox.specs.declared.opening.Client.{Client}
 use Rattle.satbox.proofs.Keeping.{Whole}
 use Rattle.satbox.proofs.OpeningKeeps.{new-feed, row}
-use Rattle.lives.specs.Audit.{Frontend, heldBy, notedBy, audited, isHolder, keeps, Agree}
+use Rattle.lives.specs.Audit.{Frontend, notedBy, audited, isHolder, keeps, Agree}
 use Rattle.lives.proofs.Keepers.{any-set-same, any-set-new, any-none, noted-joined, keeps-feed}
 use Rattle.lives.proofs.Agreeing.{agree-noted, agree-freed}
 

@@ -13,9 +13,9 @@ use Rattle.steps.specs.Asked.{Asked, Lists, askedOf, listsOf}
 use Rattle.steps.specs.Sights.{sightOf}
 use Rattle.steps.specs.Steps.{isNamed}
 use Rattle.satbox.specs.Did.{Did, nothing, restreamed, reseated, noting}
-use Rattle.satbox.specs.Closing.{closing, sweeping, atClock}
+use Rattle.satbox.specs.Closing.{sweeping, atClock}
 use Rattle.satbox.specs.Opening.{guest, seating as seated, canJoin, joining, canOpen, opening}
-use Rattle.satbox.specs.Serving.{merging, merges, replaced, after, Serving, retuning, seating, grant, served}
+use Rattle.satbox.specs.Serving.{merging, merges, replaced, after, Serving, retuning, seating, grant}
 use Rattle.satbox.specs.Requests.{clientOf, answered, requested}
 use Rattle.satbox.specs.declared.opening.Client.{Client}
 use Rattle.satbox.proofs.Closings.{closing-fine, swept-fine}

@@ -1,27 +1,25 @@
 -- What expires, loses its owner or is torn down is closed in that very call, and its record is written. Assumes nothing.
 use mathlib.Core.Path.{_≡_, refl, sym, _∙_, ap, subst}
-use mathlib.Core.Bool.{Bool, true, false, not, _&&_}
-use mathlib.Core.List.{List, [], _∷_, _++_}
-use Prim.Native.Nat.{ℕ, _+_, _≤_, _<_, max}
+use mathlib.Core.Bool.{true, false}
+use mathlib.Core.List.{List, _∷_}
+use Prim.Native.Nat.{ℕ, _<_}
 use native.Mathlib.Decide.{decLt}
 use native.Mathlib.Omega.{arith}
-use lib.Dec.{eqb, leb}
 use lib.ListN.{length, getD, set, List·getD-eq-default}
 use lib.Seq.{getD-set-other}
 use Rattle.scan.specs.Lists.{first}
-use Rattle.scan.proofs.Bools.{never, and-both, by-cases, Same, same, other, sames}
-use Rattle.journal.specs.declared.Record.{Record}
+use Rattle.scan.proofs.Bools.{never, by-cases}
 use Rattle.stream.specs.Streams.{pastStream}
-use Rattle.table.specs.Counts.{any, count}
-use Rattle.table.specs.Table.{noSession, isOpen, sessionAt, streamOf, isOn, owns}
+use Rattle.table.specs.Counts.{count}
+use Rattle.table.specs.Table.{noSession, isOpen, sessionAt, streamOf, owns}
 use Rattle.table.specs.declared.Session.{Session}
 use Rattle.table.specs.declared.SatBox.{SatBox}
 use Rattle.table.proofs.Counts.{bit-yes, count-set, count-zero-at, first-some, first-passes}
 use Rattle.table.proofs.Changes.{seated-live, opened}
-use Rattle.satbox.specs.Did.{Did, then}
-use Rattle.satbox.specs.Closing.{closing, isExpired, swept}
-use Rattle.satbox.proofs.Keeping.{Whole, swept-whole, owner-sessions}
-use Rattle.lives.specs.Closed.{isClosing, Closed}
+use Rattle.satbox.specs.Did.{Did}
+use Rattle.satbox.specs.Closing.{isExpired, swept}
+use Rattle.satbox.proofs.Keeping.{Whole, swept-whole}
+use Rattle.lives.specs.Closed.{Closed}
 use Rattle.lives.proofs.Fates.{Fate, stays, leaves, Fates, noted-as, upto-fates, aged-upto}
 
 -- what leaves is closed

@@ -1,7 +1,7 @@
 -- A request table by table: after each record the history and the table agree about the frontends. Assumes nothing.
-use mathlib.Core.Path.{_≡_, refl, sym, _∙_, ap, subst}
-use mathlib.Core.Bool.{true, false}
-use mathlib.Core.List.{List, [], _∷_, _++_}
+use mathlib.Core.Path.{_≡_, refl, _∙_, ap}
+use mathlib.Core.Bool.{true}
+use mathlib.Core.List.{List}
 use Prim.Native.Nat.{ℕ, _<_}
 use lib.Dec.{eqb}
 use Rattle.scan.proofs.Bools.{cond-keeps}
@@ -17,10 +17,10 @@ use Rattle.table.specs.declared.SatBox.{SatBox}
 use Rattle.steps.specs.Asked.{Asked, Lists, askedOf, listsOf}
 use Rattle.steps.specs.Sights.{sightOf}
 use Rattle.steps.specs.Steps.{isSetup, looksUp, isNamed}
-use Rattle.satbox.specs.Did.{Did, nothing, restreamed}
+use Rattle.satbox.specs.Did.{nothing, restreamed}
 use Rattle.satbox.specs.Closing.{sweeping}
 use Rattle.satbox.specs.Opening.{guest, seating as seated, canJoin, joining, canOpen, opening}
-use Rattle.satbox.specs.Serving.{merging, merges, replaced, refreshed, after, Serving, keeping, retuning, seating, grant, served}
+use Rattle.satbox.specs.Serving.{merging, merges, replaced, refreshed, after, Serving, keeping, retuning, seating, grant}
 use Rattle.satbox.specs.Requests.{clientOf, answered, requested}
 use Rattle.satbox.specs.declared.opening.Client.{Client}
 use Rattle.satbox.proofs.Keeping.{Whole}
@@ -30,8 +30,7 @@ use Rattle.satbox.proofs.Branching.{merging-live}
 use Rattle.promises.proofs.Passing.{served-by, tears-closable}
 use Rattle.promises.proofs.Requests.{answered-by}
 use Rattle.promises.proofs.Serving.{Alike}
-use Rattle.lives.specs.Audit.{Agree}
-use Rattle.lives.specs.Moments.{restream, replace, notes, Leads, begun, quiet, noted}
+use Rattle.lives.specs.Moments.{restream, replace, notes, begun, quiet, noted}
 use Rattle.lives.proofs.Agreeing.{agree-fed, agree-replaced}
 use Rattle.lives.proofs.Seating.{agree-joined, agree-new, agree-opened}
 use Rattle.lives.proofs.Chains.{Watched, watched-quiet, watched-nothing, watched-then, closing-watched, sweeping-watched}

@@ -1,6 +1,6 @@
 -- After a request or a tick no open session has expired: what the sweep left is not, and nothing that a request does makes one so. Assumes nothing.
 use mathlib.Core.Path.{_≡_, refl, sym, subst}
-use mathlib.Core.Bool.{true, false, and-false}
+use mathlib.Core.Bool.{false, and-false}
 use mathlib.Core.List.{List}
 use Prim.Native.Nat.{ℕ, _-_, max}
 use native.Mathlib.Omega.{arith}
@@ -24,7 +24,7 @@ use Rattle.satbox.specs.Did.{Did, nothing, restreamed, reseated, noting}
 use Rattle.satbox.specs.Closing.{isExpired, closing, sweeping, atClock}
 use Rattle.satbox.specs.Opening.{guest, seating as seated, canJoin, joining, canOpen, opening}
 use Rattle.satbox.specs.Calls.{ifDone, ticked}
-use Rattle.satbox.specs.Serving.{merging, merges, replaced, refreshed, after, Serving, retuning, seating, grant, served}
+use Rattle.satbox.specs.Serving.{merging, merges, replaced, refreshed, after, Serving, retuning, seating, grant}
 use Rattle.satbox.specs.Requests.{clientOf, answered, requested, replied}
 use Rattle.satbox.specs.declared.opening.Client.{Client}
 use Rattle.satbox.proofs.Keeping.{Whole, clock-whole}
