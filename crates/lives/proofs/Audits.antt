@@ -19,7 +19,8 @@ use Rattle.lives.specs.Calls.{lent, Call, request, tick, collect, order,
 use Rattle.lives.specs.Runs.{Life, live, run, Lives, after}
 use Rattle.lives.specs.Audit.{Agree}
 use Rattle.lives.specs.Moments.{empty, Leads, begun, quiet}
-use Rattle.lives.proofs.Holding.{Good, born-good, live-good}
+use Rattle.lives.proofs.Holding.{Good, born-good}
+use Rattle.lives.proofs.Running.{live-good}
 use Rattle.lives.proofs.Agreeing.{agree-emptied}
 use Rattle.lives.proofs.Chains.{Watched, leads-agree, leads-then, watched-quiet, sweeping-watched}
 use Rattle.lives.proofs.Watching.{requested-watched}

@@ -4,12 +4,9 @@ use mathlib.Core.Bool.{Bool, true, _&&_}
 use mathlib.Core.List.{List, [], _∷_, _++_}
 use Prim.Native.Nat.{ℕ, zero, suc, _<_}
 use native.Mathlib.Omega.{arith}
-use lib.Dec.{eqb}
 use borrow.Author.Tests.{lt-ltb}
 use Rattle.scan.specs.Lists.{all}
 use Rattle.scan.proofs.Bools.{and-both, both, cond-keeps}
-use Rattle.aim.specs.declared.Method.{Method}
-use Rattle.aim.specs.declared.Method.the-variants.{Options, Setup, Play, Teardown, Other}
 use Rattle.journal.specs.declared.Record.{Record}
 use Rattle.stream.specs.declared.Stream.{Stream}
 use Rattle.table.specs.Table.{noSession, sessionAt}
@@ -17,23 +14,18 @@ use Rattle.table.specs.Finding.{lowestPlace, lowestId, isTaken, nextNumber, dra
 use Rattle.table.specs.declared.Session.{Session}
 use Rattle.table.specs.declared.SatBox.{SatBox}
 use Rattle.table.proofs.Counts.{getD-set-all}
-use Rattle.steps.specs.Asked.{Asked, Lists, askedOf, listsOf}
-use Rattle.steps.specs.Sights.{sightOf}
-use Rattle.steps.specs.Steps.{isSetup, isNamed}
 use Rattle.satbox.specs.Did.{Did, nothing, then, restreamed, reseated, noting}
 use Rattle.satbox.specs.Does.{Closable}
 use Rattle.satbox.specs.Closing.{closeOne, free, closing, sweeping, atClock}
 use Rattle.satbox.specs.Opening.{guest, seating as seated, canJoin, joining, canOpen, opening}
-use Rattle.satbox.specs.Serving.{merging, merges, replaced, refreshed, after, Serving, retuning, seating, grant}
-use Rattle.satbox.specs.Requests.{clientOf, answered, requested}
+use Rattle.satbox.specs.Serving.{replaced}
+use Rattle.satbox.specs.Requests.{answered, requested}
 use Rattle.satbox.specs.declared.opening.Client.{Client}
 use Rattle.satbox.proofs.Keeping.{Whole, whole-roomy, clock-whole}
 use Rattle.satbox.proofs.Kept.{sweeping-whole}
 use Rattle.satbox.proofs.RecordLaws.{closing-holds, swept-holds}
-use Rattle.satbox.proofs.Passing.{Untested}
-use Rattle.promises.proofs.Passing.{served-by, tears-closable}
-use Rattle.promises.proofs.Requests.{answered-by}
 use Rattle.lives.specs.Calls.{isShort}
+use Rattle.lives.proofs.Requests.{Retuned, retuned-same, answered-holds}
 
 -- the clock and the sessions' numbers of a table; of a record
 pub record Short (t : SatBox) : Type 0 where
@@ -119,46 +111,30 @@ opening-fitting m client t short =
     record { kept = f .kept; fit = f .fit })
     (λ e. fitting-nothing t)
 
--- STEPS 1 TO 18
-module _ (t : SatBox) (a : Asked) (l : Lists) (client : Client) (w : Whole t) (short : client .draw < 4294967296) where
-  changed-fitting : (s : Session) → s .number ≡ sessionAt t (sightOf t a .place) .number → Fitting t (nothing (replaced (sightOf t a .place) s t))
-  unfolding replaced
-  changed-fitting s e h =
-      record {
-        kept = record { clock = h .clock; numbers = λ k. getD-set-all (λ (x : Session). x .number < 4294967296) (t .sessions) (sightOf t a .place) k s noSession (rw e (h .numbers (sightOf t a .place))) (h .numbers k) };
-        fit = refl;
-      }
-
-  after-number : after (sightOf t a) .number ≡ sessionAt t (sightOf t a .place) .number
-  unfolding sightOf
-  after-number = cond-keeps (λ (s : Session). s .number ≡ sessionAt t (sightOf t a .place) .number) (isSetup (sightOf t a .method)) _ _ (λ e. refl) (λ e. refl)
-
-  retuning-fitting : Fitting t (retuning t a l .did)
-  unfolding replaced restreamed
-  retuning-fitting =
-      let s = after (sightOf t a) in
-      cond-keeps (λ (u : SatBox). Fitting t (nothing (replaced (sightOf t a .place) s u))) (merges (sightOf t a)) (restreamed (a .stream) (merging t a l .stream) t) t
-      (λ e h. let f = changed-fitting s after-number h in record { kept = record { clock = f .kept .clock; numbers = f .kept .numbers }; fit = refl })
-      (λ e. changed-fitting s after-number)
-
-  grant-fitting : Untested (sightOf t a) → (m : Method) → a .method ≡ m → Fitting t (grant m t a l client .did)
-  unfolding sightOf
-  grant-fitting p Options e =
-      cond-keeps (Fitting t) (isNamed (sightOf t a)) _ (nothing t) (λ h. changed-fitting (refreshed (t .clock) (sightOf t a .session)) refl) (λ h. fitting-nothing t)
-  grant-fitting p Setup e =
-      cond-keeps (λ (x : Serving). Fitting t (x .did)) (isNamed (sightOf t a)) (retuning t a l) (seating t a l client) (λ h. retuning-fitting)
-      (λ h. cond-keeps (λ (x : Serving). Fitting t (x .did)) (eqb (a .stream) 0) _ _ (λ z. opening-fitting (merging t a l .stream) client t short) (λ z. joining-fitting (a .stream) client t short))
-  grant-fitting p Play e = retuning-fitting
-  grant-fitting p Teardown e = closing-fitting 1 (sightOf t a .place) t (tears-closable t a w p e)
-  grant-fitting p Other e = fitting-nothing t
+-- A SESSION CHANGED in its place keeps its number
+changed-fitting : {t u : SatBox} (place : ℕ) (s : Session) → s .number ≡ sessionAt t place .number → Retuned t u → Fitting t (nothing (replaced place s u))
+unfolding replaced
+changed-fitting {t} place s e r h =
+    let same = retuned-same r in
+    record {
+      kept =
+          record {
+            clock = rw (same .1) (h .clock);
+            numbers = rw (same .0) (λ k. getD-set-all (λ (x : Session). x .number < 4294967296) (t .sessions) place k s noSession (rw e (h .numbers place)) (h .numbers k));
+          };
+      fit = refl;
+    }
 
 answered-fitting : (s : List ℕ) (address draw : ℕ) → draw < 4294967296 → (t : SatBox) → Whole t → Fitting t (answered s address draw t .did)
 answered-fitting s address draw short t w =
-    let a = askedOf (t .frontends) s in
-    let client = clientOf address draw a in
-    answered-by s address draw t (λ (x : Serving). Fitting t (x .did))
-    (λ e. served-by t a (listsOf s) client (λ (x : Serving). Fitting t (x .did)) (λ p q. grant-fitting t a (listsOf s) client w short p (a .method) refl) (λ n. fitting-nothing t))
-    (λ e. fitting-nothing t)
+    answered-holds s address draw t w (Fitting t)
+    (record {
+      still = fitting-nothing t;
+      changed = λ place s k u r. changed-fitting place s (k .alike .number) r;
+      joined = λ id client e. joining-fitting id client t (rw e short);
+      opened = λ m client e. opening-fitting m client t (rw e short);
+      closed = λ place c. closing-fitting 1 place t c;
+    })
 
 -- A REQUEST
 pub requested-fits : (s : List ℕ) (clock address draw : ℕ) → clock < 4294967296 → draw < 4294967296 → (t : SatBox) → Whole t → Short t → Fits t (requested s clock address draw t .did)

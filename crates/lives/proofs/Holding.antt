@@ -1,40 +1,31 @@
--- What every life keeps, and that each call keeps it: the table is well formed, and the journal, what was collected and the sequence are
--- those of the history. Assumes nothing.
+-- What every life keeps: the table is well formed, and the journal, what was collected and the sequence are those of the history. An operation
+-- that counts what it writes keeps it, and so does a collection. Assumes nothing.
 use mathlib.Core.Path.{_≡_, refl, _∙_}
-use mathlib.Core.Bool.{Bool, true, false}
-use mathlib.Core.List.{List, [], _∷_, _++_, append-assoc, append-nil}
+use mathlib.Core.Bool.{true}
+use mathlib.Core.List.{List, [], _++_, append-assoc, append-nil}
 use Prim.Native.Nat.{ℕ, _+_, _*_, _≤_, _<_}
 use native.Mathlib.Omega.{arith}
 use lib.ListN.{length, take, drop, length-append}
 use lib.Seq.{take-at, length-take-le}
-use borrow.Author.Tests.{ltb-true, not-true}
 use Rattle.scan.specs.Lists.{all}
-use Rattle.scan.proofs.Bools.{never, and-both}
 use Rattle.digits.specs.Wrote.{written}
 use Rattle.digits.proofs.Writes.{written-length}
 use Rattle.journal.specs.Records.{isRecord}
 use Rattle.journal.specs.declared.Record.{Record}
-use Rattle.table.specs.Formed.{areSizes, wellFormed}
+use Rattle.table.specs.Formed.{areSizes}
 use Rattle.table.specs.declared.SatBox.{SatBox}
-use Rattle.table.specs.declared.Refusal.{Refusal}
-use Rattle.table.specs.declared.Refusal.the-variants.{Table, Journal}
 use Rattle.table.specs.declared.Outcome.{Outcome}
 use Rattle.table.specs.declared.Outcome.the-variants.{Done, Refused}
 use Rattle.satbox.specs.Did.{Did, bytesOf}
-use Rattle.satbox.specs.Closing.{sweeping, atClock}
-use Rattle.satbox.specs.Calls.{_else_andThen_, ifDone, isJournal, tickOutcome, ticked, tickedJournal, collectOutcome, emptied, collected, collectedInto}
-use Rattle.satbox.specs.Requests.{requestOutcome, requested, replied, repliedJournal}
+use Rattle.satbox.specs.Calls.{ifDone, emptied}
 use Rattle.satbox.proofs.DoesLaws.{bytes-append, bytes-length}
-use Rattle.satbox.proofs.Closings.{swept-fine}
-use Rattle.satbox.proofs.Keeping.{Whole, whole-roomy, clock-whole}
-use Rattle.satbox.proofs.Kept.{fresh-whole, sweeping-whole, collect-whole}
-use Rattle.satbox.proofs.RecordLaws.{Counts-on, swept-numbered}
-use Rattle.satbox.proofs.Recorded.{Recorded, swept-recorded}
-use Rattle.promises.proofs.Reading.{request-whole, request-recorded}
-use Rattle.promises.proofs.Written.{Counted, requested-counted}
-use Rattle.lives.specs.Calls.{Lent, own, other, lent, ownAfter, Call, request, tick, collect, order, isShort, isLent, isCall}
-use Rattle.lives.specs.Runs.{Life, born, live, run, Lives, after}
-use Rattle.lives.proofs.Settings.{sweeping-set, requested-set}
+use Rattle.satbox.proofs.Keeping.{Whole}
+use Rattle.satbox.proofs.Kept.{fresh-whole}
+use Rattle.satbox.proofs.RecordLaws.{Counts-on}
+use Rattle.satbox.proofs.Recorded.{Recorded}
+use Rattle.promises.proofs.Written.{Counted}
+use Rattle.lives.specs.Calls.{Lent, own, lent, ownAfter}
+use Rattle.lives.specs.Runs.{Life, born}
 use Rattle.lives.proofs.Fitting.{all-both}
 use Rattle.lives.proofs.Journals.{take-written, counts-both}
 
@@ -80,7 +71,7 @@ pub record Works (t : SatBox) (d : Did) : Type 0 where
   pub clock : d .satbox .clock < 4294967296
 
 -- a life after a call that did d, or was refused, with the journal that it was lent
-abbrev worked : Lent → Outcome → Did → Life → Life
+abbrev pub worked : Lent → Outcome → Did → Life → Life
 worked l o d x =
     record {
       satbox = ifDone o (d .satbox) (x .satbox);
@@ -91,7 +82,7 @@ worked l o d x =
     }
 
 -- and after one that collected into b, or was refused
-abbrev emptiedInto : Lent → Outcome → List ℕ → Life → Life
+abbrev pub emptiedInto : Lent → Outcome → List ℕ → Life → Life
 emptiedInto l o b x =
     let held = x .satbox .held in
     record {
@@ -103,7 +94,7 @@ emptiedInto l o b x =
     }
 
 module _ {frontends size : ℕ} {x : Life} (g : Good frontends size x) where
-  same-good : Good frontends size (record { satbox = x .satbox; journal = x .journal; history = x .history ++ []; since = x .since ++ []; gathered = x .gathered ++ [] })
+  pub same-good : Good frontends size (record { satbox = x .satbox; journal = x .journal; history = x .history ++ []; since = x .since ++ []; gathered = x .gathered ++ [] })
   same-good =
       record {
         whole = g .whole;
@@ -142,12 +133,12 @@ module _ {frontends size : ℕ} {x : Life} (g : Good frontends size x) where
         gathered = rw append-nil (g .gathered);
       }
 
-  worked-good : (o : Outcome) (d : Did) → Works (x .satbox) d → Good frontends size (worked own o d x)
+  pub worked-good : (o : Outcome) (d : Did) → Works (x .satbox) d → Good frontends size (worked own o d x)
   worked-good Done d w = done-good d w
   worked-good (Refused r) d w = same-good
 
   -- A COLLECTION
-  collected-good : (o : Outcome) (b : List ℕ) → Whole (ifDone o (emptied (x .satbox)) (x .satbox)) → Good frontends size (emptiedInto own o b x)
+  pub collected-good : (o : Outcome) (b : List ℕ) → Whole (ifDone o (emptied (x .satbox)) (x .satbox)) → Good frontends size (emptiedInto own o b x)
   unfolding emptied
   collected-good (Refused r) b w = same-good
   collected-good Done b w =
@@ -167,86 +158,3 @@ module _ {frontends size : ℕ} {x : Life} (g : Good frontends size x) where
         split = refl;
         gathered = rw (take-at (take (t .held) (x .journal)) (drop (t .held) b) (t .held) n, g .text, g .split, bytes-append (g .past) (x .since), g .gathered);
       }
-
--- a call that is lent other bytes than the box's journal, of another length, is refused
-pub refused-away : (P : Outcome → Type 0) (a b : Bool) (o : Outcome) → b ≡ false → ((r : Refusal) → P (Refused r)) → P (a else Table andThen b else Journal andThen o)
-refused-away P true true o e h = never refl e
-refused-away P true false o e h = h Journal
-refused-away P false b o e h = h Table
-
-not-lent : (size : ℕ) (t : SatBox) (k : List ℕ) → t .size ≡ size → isLent size (other k) ≡ true → isJournal t k ≡ false
-not-lent size t k e h = rw e (not-true _ h)
-
-sweeping-counted : (clock : ℕ) (t : SatBox) → Whole t → Counted t (sweeping clock t)
-unfolding atClock
-sweeping-counted clock t w =
-    let r = whole-roomy (atClock clock t) (clock-whole clock t w) in
-    record { held = swept-fine (atClock clock t) r .held; sequence = swept-numbered (atClock clock t) r }
-
--- EACH CALL
-module _ {frontends size : ℕ} {x : Life} (g : Good frontends size x) where
-  sweeping-works : (clock : ℕ) → isShort clock ≡ true → Works (x .satbox) (sweeping clock (x .satbox))
-  sweeping-works clock h =
-      let t = x .satbox in
-      let f = sweeping-set clock t (g .whole) in
-      record {
-        whole = sweeping-whole clock t (g .whole);
-        counted = sweeping-counted clock t (g .whole);
-        recorded = swept-recorded (atClock clock t) (clock-whole clock t (g .whole));
-        size = f .size;
-        frontends = f .frontends;
-        clock = omega (arith, f .clock, g .clock, ltb-true clock 4294967296 h);
-      }
-
-  requested-works : (s : List ℕ) (clock address draw : ℕ) → isShort clock ≡ true → isShort draw ≡ true → Works (x .satbox) (requested s clock address draw (x .satbox) .did)
-  requested-works s clock address draw h short =
-      let t = x .satbox in
-      let f = requested-set s clock address draw t (g .whole) in
-      let d = ltb-true draw 4294967296 short in
-      record {
-        whole = request-whole s clock address draw d t (g .whole);
-        counted = requested-counted s address draw clock t (g .whole);
-        recorded = request-recorded s clock address draw d t (g .whole);
-        size = f .size;
-        frontends = f .frontends;
-        clock = omega (arith, f .clock, g .clock, ltb-true clock 4294967296 h);
-      }
-
-  pub live-good : (c : Call) → isCall size c ≡ true → Good frontends size (live c x)
-  unfolding live replied repliedJournal ticked tickedJournal collected collectedInto
-  live-good (request s clock address draw b own) e =
-      let p = and-both (isShort clock) _ e in
-      let q = and-both (isShort draw) _ (and-both (isShort address) _ (p .1) .1) in
-      worked-good g (requestOutcome (x .satbox) (x .journal) b) (requested s clock address draw (x .satbox) .did) (requested-works s clock address draw (p .0) (q .0))
-  live-good (request s clock address draw b (other k)) e =
-      let p = and-both (isShort clock) _ e in
-      let q = and-both (isShort draw) _ (and-both (isShort address) _ (p .1) .1) in
-      refused-away (λ (o : Outcome). Good frontends size (worked (other k) o (requested s clock address draw (x .satbox) .did) x)) (wellFormed (x .satbox)) (isJournal (x .satbox) k) _
-      (not-lent size (x .satbox) k (g .sized) (q .1)) (λ r. same-good g)
-  live-good (tick clock own) e =
-      worked-good g (tickOutcome (x .satbox) (x .journal)) (sweeping clock (x .satbox)) (sweeping-works clock (and-both (isShort clock) _ e .0))
-  live-good (tick clock (other k)) e =
-      refused-away (λ (o : Outcome). Good frontends size (worked (other k) o (sweeping clock (x .satbox)) x)) (wellFormed (x .satbox)) (isJournal (x .satbox) k) _
-      (not-lent size (x .satbox) k (g .sized) (and-both (isShort clock) _ e .1)) (λ r. same-good g)
-  live-good (collect b own) e =
-      collected-good g (collectOutcome (x .satbox) (x .journal) b) b (collect-whole (x .satbox) (x .journal) b (g .whole))
-  live-good (collect b (other k)) e =
-      refused-away (λ (o : Outcome). Good frontends size (emptiedInto (other k) o b x)) (wellFormed (x .satbox)) (isJournal (x .satbox) k) _
-      (not-lent size (x .satbox) k (g .sized) e) (λ r. same-good g)
-  live-good (order n) e = same-good g
-
--- ALL OF THEM
-run-good : {frontends size : ℕ} (cs : List Call) {x : Life} → all (isCall size) cs ≡ true → Good frontends size x → Good frontends size (run cs x)
-run-good [] e g = g
-run-good {size = size} (c ∷ cs) e g = let p = and-both (isCall size c) _ e in run-good cs (p .1) (live-good g c (p .0))
-
-pub after-good : {frontends size : ℕ} {j : List ℕ} {cs : List Call} → Lives frontends size j cs → Good frontends size (after frontends size j cs)
-after-good {frontends} {size} {j} {cs} h = run-good cs (h .calls) (born-good frontends size j (h .sizes) (h .journal))
-
--- and the box after expired sessions are closed has its frontends and its size still
-module _ {frontends size : ℕ} {j : List ℕ} {cs : List Call} (h : Lives frontends size j cs) (clock : ℕ) where
-  pub swept-fed : sweeping clock (after frontends size j cs .satbox) .satbox .frontends ≡ frontends
-  swept-fed = sweeping-set clock (after frontends size j cs .satbox) (after-good h .whole) .frontends ∙ after-good h .fed
-
-  pub swept-sized : sweeping clock (after frontends size j cs .satbox) .satbox .size ≡ size
-  swept-sized = sweeping-set clock (after frontends size j cs .satbox) (after-good h .whole) .size ∙ after-good h .sized

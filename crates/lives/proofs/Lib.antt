@@ -1,7 +1,9 @@
+pub mod Requests
 pub mod Settings
 pub mod Journals
 pub mod Fitting
 pub mod Holding
+pub mod Running
 pub mod Refusals
 pub mod Rooms
 pub mod Fates

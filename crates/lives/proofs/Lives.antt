@@ -34,7 +34,7 @@ use Rattle.lives.specs.Openings.{PassesElse}
 use Rattle.lives.specs.Audit.{letGo, audited, isTaken, isHolder, holds}
 use Rattle.lives.specs.Moments.{Leads, LetGo}
 use Rattle.lives.proofs.Journals.{counts-at, counts-next}
-use Rattle.lives.proofs.Holding.{live-good, after-good, swept-fed, swept-sized}
+use Rattle.lives.proofs.Running.{live-good, after-good, swept-fed, swept-sized}
 use Rattle.lives.proofs.Refusals.{call-gated}
 use Rattle.lives.proofs.Young.{young-after}
 use Rattle.lives.proofs.InCalls.{expired-in, lost-in, torn-in, left-in}

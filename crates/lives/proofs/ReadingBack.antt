@@ -29,7 +29,8 @@ use Rattle.lives.specs.Calls.{lent, Call, request, tick, collect, order,
 use Rattle.lives.specs.Runs.{Life, born, live, run, Lives, after}
 use Rattle.lives.proofs.Journals.{counts-at}
 use Rattle.lives.proofs.Fitting.{Short, isFit, Fits, all-both, sweeping-fits, requested-fits}
-use Rattle.lives.proofs.Holding.{Good, live-good, born-good}
+use Rattle.lives.proofs.Holding.{Good, born-good}
+use Rattle.lives.proofs.Running.{live-good}
 
 all-within : (p : Record → Bool) (l : List Record) (i : ℕ) (d : Record) → all p l ≡ true → i < length l → p (getD l i d) ≡ true
 all-within p [] i d e h = absurd (omega arith)

@@ -2,28 +2,22 @@
 use mathlib.Core.Path.{_≡_, refl, _∙_}
 use mathlib.Core.List.{List}
 use Prim.Native.Nat.{ℕ, max}
-use lib.Dec.{eqb}
 use Rattle.scan.proofs.Bools.{cond-keeps}
-use Rattle.aim.specs.declared.Method.{Method}
-use Rattle.aim.specs.declared.Method.the-variants.{Options, Setup, Play, Teardown, Other}
 use Rattle.stream.specs.declared.Stream.{Stream}
 use Rattle.table.specs.Finding.{lowestId}
+use Rattle.table.specs.declared.Session.{Session}
 use Rattle.table.specs.declared.SatBox.{SatBox}
-use Rattle.steps.specs.Asked.{Asked, Lists, askedOf, listsOf}
-use Rattle.steps.specs.Sights.{sightOf}
-use Rattle.steps.specs.Steps.{isNamed}
 use Rattle.satbox.specs.Did.{Did, nothing, restreamed, reseated, noting}
-use Rattle.satbox.specs.Closing.{sweeping, atClock}
+use Rattle.satbox.specs.Does.{Closable}
+use Rattle.satbox.specs.Closing.{closing, sweeping, atClock}
 use Rattle.satbox.specs.Opening.{guest, seating as seated, canJoin, joining, canOpen, opening}
-use Rattle.satbox.specs.Serving.{merging, merges, replaced, after, Serving, retuning, seating, grant}
-use Rattle.satbox.specs.Requests.{clientOf, answered, requested}
+use Rattle.satbox.specs.Serving.{replaced}
+use Rattle.satbox.specs.Requests.{answered, requested}
 use Rattle.satbox.specs.declared.opening.Client.{Client}
 use Rattle.satbox.proofs.Closings.{closing-fine, swept-fine}
 use Rattle.satbox.proofs.Keeping.{Whole, whole-roomy, clock-whole}
 use Rattle.satbox.proofs.Kept.{sweeping-whole}
-use Rattle.satbox.proofs.Passing.{Untested}
-use Rattle.promises.proofs.Passing.{served-by, tears-closable}
-use Rattle.promises.proofs.Requests.{answered-by}
+use Rattle.lives.proofs.Requests.{Retuned, as-it-was, merged, answered-holds}
 
 -- u is a box of t's frontends and size, at a clock
 pub record Set (t : SatBox) (now : ℕ) (u : SatBox) : Type 0 where
@@ -58,34 +52,25 @@ opening-set m client t =
     cond-keeps (Sets t) (canOpen (m .frontend) t) (seated 1 (guest 1 id client t) (restreamed id m t)) (nothing t)
     (λ e. record { size = refl; frontends = refl; clock = refl }) (λ e. same-set t)
 
--- STEPS 1 TO 18
-module _ (t : SatBox) (a : Asked) (l : Lists) (client : Client) (w : Whole t) where
-  retuning-set : Sets t (retuning t a l .did)
-  unfolding replaced restreamed
-  retuning-set =
-      cond-keeps (λ (u : SatBox). Sets t (nothing (replaced (sightOf t a .place) (after (sightOf t a)) u))) (merges (sightOf t a)) (restreamed (a .stream) (merging t a l .stream) t) t
-      (λ e. record { size = refl; frontends = refl; clock = refl }) (λ e. record { size = refl; frontends = refl; clock = refl })
+-- A SESSION CHANGED in its place, with a query merged or not
+changed-set : {t u : SatBox} (place : ℕ) (s : Session) → Retuned t u → Sets t (nothing (replaced place s u))
+unfolding replaced restreamed
+changed-set place s as-it-was = record { size = refl; frontends = refl; clock = refl }
+changed-set place s (merged id m e) = record { size = refl; frontends = refl; clock = refl }
 
-  grant-set : Untested (sightOf t a) → (m : Method) → a .method ≡ m → Sets t (grant m t a l client .did)
-  unfolding sightOf replaced
-  grant-set p Options e =
-      cond-keeps (Sets t) (isNamed (sightOf t a)) _ (nothing t) (λ h. record { size = refl; frontends = refl; clock = refl }) (λ h. same-set t)
-  grant-set p Setup e =
-      cond-keeps (λ (x : Serving). Sets t (x .did)) (isNamed (sightOf t a)) (retuning t a l) (seating t a l client) (λ h. retuning-set)
-      (λ h. cond-keeps (λ (x : Serving). Sets t (x .did)) (eqb (a .stream) 0) _ _ (λ z. opening-set (merging t a l .stream) client t) (λ z. joining-set (a .stream) client t))
-  grant-set p Play e = retuning-set
-  grant-set p Teardown e =
-      let f = closing-fine 1 (sightOf t a .place) t (tears-closable t a w p e) in
-      record { size = f .size; frontends = f .frontends; clock = f .clock }
-  grant-set p Other e = same-set t
+closing-set : (place : ℕ) (t : SatBox) → Closable t place → Sets t (closing 1 place t)
+closing-set place t c = let f = closing-fine 1 place t c in record { size = f .size; frontends = f .frontends; clock = f .clock }
 
-pub answered-set : (s : List ℕ) (address draw : ℕ) (t : SatBox) → Whole t → Set t (t .clock) (answered s address draw t .did .satbox)
+answered-set : (s : List ℕ) (address draw : ℕ) (t : SatBox) → Whole t → Sets t (answered s address draw t .did)
 answered-set s address draw t w =
-    let a = askedOf (t .frontends) s in
-    let client = clientOf address draw a in
-    answered-by s address draw t (λ (x : Serving). Sets t (x .did))
-    (λ e. served-by t a (listsOf s) client (λ (x : Serving). Sets t (x .did)) (λ p q. grant-set t a (listsOf s) client w p (a .method) refl) (λ n. same-set t))
-    (λ e. same-set t)
+    answered-holds s address draw t w (Sets t)
+    (record {
+      still = same-set t;
+      changed = λ place s k u r. changed-set place s r;
+      joined = λ id client e. joining-set id client t;
+      opened = λ m client e. opening-set m client t;
+      closed = λ place c. closing-set place t c;
+    })
 
 -- A REQUEST
 pub requested-set : (s : List ℕ) (clock address draw : ℕ) (t : SatBox) → Whole t → Set t (max (t .clock) clock) (requested s clock address draw t .did .satbox)
