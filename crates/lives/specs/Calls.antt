@@ -25,10 +25,10 @@ pub data Lent : Type 0 where
 -- A CALL: a request with its bytes, clock, address, draw, answer buffer and journal; a tick with its clock and journal; a collection with
 -- its collecting buffer and journal; a frontend order with the frontend's number
 pub data Call : Type 0 where
-  request : List ℕ → ℕ → ℕ → ℕ → List ℕ → Lent → Call
-  tick : ℕ → Lent → Call
-  collect : List ℕ → Lent → Call
-  order : ℕ → Call
+  request : (bytes : List ℕ) (clock address draw : ℕ) (answer : List ℕ) (journal : Lent) → Call
+  tick : (clock : ℕ) (journal : Lent) → Call
+  collect : (buffer : List ℕ) (journal : Lent) → Call
+  order : (frontend : ℕ) → Call
 
 -- the bytes that are lent, where the box's own journal is j
 abbrev pub lent : Lent → List ℕ → List ℕ

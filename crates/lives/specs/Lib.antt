@@ -4,3 +4,4 @@ pub mod Openings
 pub mod Closed
 pub mod Audit
 pub mod Moments
+pub mod Samples
