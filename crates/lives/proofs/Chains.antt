@@ -19,7 +19,7 @@ use Rattle.satbox.proofs.Closings.{closable, closeOne-fine}
 use Rattle.satbox.proofs.Keeping.{Whole, whole-roomy, sweepAt-whole, clock-whole}
 use Rattle.satbox.proofs.Runs.{upto-holds}
 use Rattle.lives.specs.Audit.{Agree}
-use Rattle.lives.specs.Moments.{clocked, restream, notes, Leads, begun, quiet, noted}
+use Rattle.lives.specs.Moments.{clocked, restream, closes, Leads, begun, quiet, noted}
 use Rattle.lives.proofs.Fates.{gone}
 use Rattle.lives.proofs.Agreeing.{Single, agree-closed, agree-freed, agree-clock}
 
@@ -54,7 +54,7 @@ watched-then t d f p q h g =
 -- ONE CLOSING
 one-watched : (cause i : ℕ) (t : SatBox) → Closable t i → Single t → Watched t (closeOne cause i t)
 unfolding closeOne
-one-watched cause i t c one h g = noted (begun g) (notes 3 cause (sessionAt t i) i noSession) (agree-closed h cause i t c one g)
+one-watched cause i t c one h g = noted (begun g) (closes cause i (c .some)) (agree-closed h cause i t c one g)
 
 -- THE CASCADE: there is room, and no number occurs twice
 record Steady (t : SatBox) : Type 0 where
@@ -88,7 +88,7 @@ cascade-watched id t w =
 
 -- A CLOSING; the stream is freed when nobody is on it any more
 free-watched : (id : ℕ) (t : SatBox) → count (isOn id) (t .sessions) ≡ 0 → Watched t (free id t)
-free-watched id t none h g = watched-quiet (quiet (begun g) (restream id noStream) (agree-freed t g id noStream none))
+free-watched id t none h g = watched-quiet (quiet (begun g) (restream id noStream none) (agree-freed t g id noStream none))
 
 pub closing-watched : (cause i : ℕ) (t : SatBox) → Closable t i → Whole t → Watched t (closing cause i t)
 unfolding closing

@@ -1,7 +1,7 @@
 -- Where a history says that a frontend was let go, there was a moment at which its table let it go, at that clock. Assumes nothing.
 use mathlib.Core.Path.{_≡_, refl, sym, _∙_, ap}
 use mathlib.Core.Bool.{_&&_}
-use mathlib.Core.List.{List, _++_}
+use mathlib.Core.List.{List, [], _∷_, _++_}
 use mathlib.Core.Logic.{_⊎_, inl, inr}
 use Prim.Native.Nat.{ℕ}
 use native.Mathlib.Omega.{arith}
@@ -9,10 +9,12 @@ use lib.Dec.{eqb}
 use borrow.Author.Tests.{eq-eqb}
 use Rattle.scan.proofs.Bools.{cond-keeps}
 use Rattle.journal.specs.declared.Record.{Record}
+use Rattle.table.specs.Table.{sessionAt}
 use Rattle.table.specs.declared.SatBox.{SatBox}
 use Rattle.satbox.specs.Did.{Did, reseated, noting, recordOf}
+use Rattle.satbox.specs.Closing.{closeOne}
 use Rattle.lives.specs.Audit.{Frontend, unheld, heldBy, letGo, closedBy, notedBy, audited, isHolder, Agree}
-use Rattle.lives.specs.Moments.{Notes, notes, Leads, begun, quiet, noted, LetGo}
+use Rattle.lives.specs.Moments.{Notes, opens, joins, closes, Leads, begun, quiet, noted, LetGo}
 use Rattle.lives.proofs.Keepers.{audited-more}
 use Rattle.lives.proofs.Chains.{leads-agree, leads-then}
 
@@ -44,12 +46,16 @@ module _ (f n clock : ℕ) (r : Record) where
       (λ y. cond-keeps (λ (b : Frontend). b ≡ letGo n clock → Before a) (eqb (r .kind) 1) (heldBy (r .session)) (closedBy r a) (λ k e. held-not e) (λ k. closed-before a))
       (λ y. inl)
 
+record-noted : (f n clock : ℕ) (k : List Record) (r : Record) → audited f (k ++ (r ∷ [])) ≡ letGo n clock → (audited f k ≡ letGo n clock) ⊎ ((audited f k ≡ heldBy n) × (r .clock ≡ clock))
+record-noted f n clock k r e = noted-before f n clock r (audited f k) (sym (audited-more f unheld k r) ∙ e)
+
 -- what a change that writes a record writes
 note-noted : {u : SatBox} {d : Did} → Notes u d → (f n clock : ℕ) (k : List Record) → audited f (k ++ d .records) ≡ letGo n clock
     → (audited f k ≡ letGo n clock) ⊎ ((audited f k ≡ heldBy n) × (d .satbox .clock ≡ clock))
-unfolding noting reseated
-note-noted {u} (notes kind cause s place after) f n clock k e =
-    noted-before f n clock (recordOf kind cause s u) (audited f k) (sym (audited-more f unheld k (recordOf kind cause s u)) ∙ e)
+unfolding closeOne noting reseated
+note-noted {u} (opens s place p q o) f n clock k e = record-noted f n clock k (recordOf 1 0 s u) e
+note-noted {u} (joins s place p q o) f n clock k e = record-noted f n clock k (recordOf 2 0 s u) e
+note-noted {u} (closes cause place p) f n clock k e = record-noted f n clock k (recordOf 3 cause (sessionAt u place) u) e
 
 module _ (f n clock : ℕ) (z : f ≡ 0 → ⊥) {h : List Record} {t : SatBox} (new : audited f h ≡ letGo n clock → ⊥) where
   -- a chain that goes on after it

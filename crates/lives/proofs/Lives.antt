@@ -1,5 +1,6 @@
--- THE LIFE OF A BOX. For every F and C in range, every first journal of C bytes and every sequence of calls that a caller may make (`Lives`,
--- `isCall`), of the box, the journal and the history after them (`after`, the fold `run` of the calls' meanings from a fresh box). Assumes nothing.
+-- THE LIFE OF A BOX, in seven statements: for every F and C in range, every first journal of C bytes and every sequence of calls that a caller may make
+-- (`Runs.Lives`, `Calls.isCall`), of the box, the journal and the history after them (`Runs.after`, the fold of the calls' meanings from a fresh box).
+-- Every call of a life is one that comes after others, so what holds after every sequence holds after every call. Assumes nothing.
 use mathlib.Core.Path.{_≡_, sym, _∙_, ap}
 use mathlib.Core.Bool.{true, false}
 use mathlib.Core.List.{List, [], _++_}
@@ -183,8 +184,9 @@ module _ (frontends size : ℕ) (j : List ℕ) (cs : List Call) where
     pub when-let-go : (f n clock : ℕ) → (f ≡ 0 → ⊥) → audited f (x .history) ≡ letGo n clock → LetGo [] (fresh frontends size) (x .history) (x .satbox) f n clock
     when-let-go f n clock z e = let-go f n clock z (λ q. never-let-go q) (after-leads h) e
 
-    -- AT EVERY RECORD these agree with the table at that moment: the life is a chain of tables from the fresh box to this one, each record is written by
-    -- one step of it, and after each step the history so far and the table agree (`Leads`, `Agree`)
+    -- AT EVERY RECORD these agree with the table at that moment: the life is a chain of tables from the fresh box to this one (`Leads`). Each record is
+    -- written by one step of it, which is an opening or a closing in the table (`Notes`); no other step opens or closes anything (`Quiet`); and after
+    -- each step the history so far and the table agree (`Agree`)
     pub agree-at-every-record : Leads [] (fresh frontends size) (x .history) (x .satbox)
     agree-at-every-record = after-leads h
 

@@ -63,7 +63,7 @@ opened-holds ms f n s b r a kind number feed some own e none (isnt y) =
     rw (keeps-feed ms f n s (λ q. eqb-false (r .frontend) f y (feed ∙ q)), y) e
 
 -- the lowest free place is a place, and is free
-place-free : (t : SatBox) → hasPlace t ≡ true → (lowestPlace (t .sessions) < length (t .sessions)) × (sessionAt t (lowestPlace (t .sessions)) .number ≡ 0)
+pub place-free : (t : SatBox) → hasPlace t ≡ true → (lowestPlace (t .sessions) < length (t .sessions)) × (sessionAt t (lowestPlace (t .sessions)) .number ≡ 0)
 place-free t e =
     let h = ltb-true (lowestPlace (t .sessions)) (length (t .sessions)) e in
     (h, eqb-true _ _ (first-passes isFree (t .sessions) noSession h))
@@ -92,7 +92,7 @@ module _ (h : List Record) (m : Stream) (client : Client) (t : SatBox) (short : 
   u = restreamed id m t
 
   -- nobody is on it yet
-  nobody : count (isOn id) (t .sessions) ≡ 0
+  pub nobody : count (isOn id) (t .sessions) ≡ 0
   nobody = w .formed .seats .homes id (eqb-true _ _ (first-passes isDead (t .streams) pastStream (row (m .frontend) t e w)))
 
   pub agree-new : Agree h u

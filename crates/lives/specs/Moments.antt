@@ -6,24 +6,31 @@ use mathlib.Core.Bool.{true, false}
 use mathlib.Core.List.{List, _++_}
 use Rattle.journal.specs.declared.Record.{Record}
 use Rattle.stream.specs.declared.Stream.{Stream}
+use Rattle.table.specs.Counts.{count}
+use Rattle.table.specs.Table.{sessionAt, streamOf, isOn}
 use Rattle.table.specs.declared.Session.{Session}
 use Rattle.table.specs.declared.SatBox.{SatBox}
 use Rattle.satbox.specs.Did.{Did, restreamed, noting}
-use Rattle.satbox.specs.Closing.{atClock}
+use Rattle.satbox.specs.Closing.{closeOne, atClock}
 use Rattle.satbox.specs.Calls.{emptied}
 use Rattle.satbox.specs.Serving.{replaced}
 use Rattle.lives.specs.Audit.{holds, Agree}
 
--- the changes that write nothing: another clock, another stream of an ID, another session at a place, and nothing held any more
+-- THE CHANGES THAT WRITE NOTHING open and close no session: another clock; a stream that no open session is on, made or freed; a query merged into a
+-- stream, which keeps its frontend; a session changed in its place, which keeps its number, its stream and whether it owns it; and a collection
 pub data Quiet (t : SatBox) : SatBox → Type 0 where
   clocked : (clock : ℕ) → Quiet t (atClock clock t)
-  restream : (id : ℕ) (m : Stream) → Quiet t (restreamed id m t)
-  replace : (place : ℕ) (s : Session) → Quiet t (replaced place s t)
+  restream : (id : ℕ) (m : Stream) → count (isOn id) (t .sessions) ≡ 0 → Quiet t (restreamed id m t)
+  retune : (id : ℕ) (m : Stream) → m .frontend ≡ streamOf t id .frontend → Quiet t (restreamed id m t)
+  replace : (place : ℕ) (s : Session) → s .number ≡ sessionAt t place .number → s .stream ≡ sessionAt t place .stream → s .owner ≡ sessionAt t place .owner
+      → Quiet t (replaced place s t)
   empty : Quiet t (emptied t)
 
--- the change that writes a record: a session's opening or closing at a place
+-- THE CHANGES THAT WRITE A RECORD: a session with a number comes to a free place, as an owner or as a joiner; and an open session closes
 pub data Notes (t : SatBox) : Did → Type 0 where
-  notes : (kind cause : ℕ) (s : Session) (place : ℕ) (after : Session) → Notes t (noting kind cause s place after t)
+  opens : (s : Session) (place : ℕ) → sessionAt t place .number ≡ 0 → (s .number ≡ 0 → ⊥) → (s .owner ≡ 0 → ⊥) → Notes t (noting 1 0 s place s t)
+  joins : (s : Session) (place : ℕ) → sessionAt t place .number ≡ 0 → (s .number ≡ 0 → ⊥) → s .owner ≡ 0 → Notes t (noting 2 0 s place s t)
+  closes : (cause place : ℕ) → (sessionAt t place .number ≡ 0 → ⊥) → Notes t (closeOne cause place t)
 
 -- from the history h and the table t to the history k and the table u, record by record
 pub data Leads (h : List Record) (t : SatBox) : List Record → SatBox → Type 0 where
