@@ -1,0 +1,195 @@
+-- THE LIFE OF A BOX, in seven statements: for every F and C in range, every first journal of C bytes and every sequence of calls that a caller may make
+-- (`Runs.Lives`, `Calls.isCall`), of the box, the journal and the history after them (`Runs.after`, the fold of the calls' meanings from a fresh box).
+-- Every call of a life is one that comes after others, so what holds after every sequence holds after every call. Assumes nothing.
+use mathlib.Core.Path.{_≡_, sym, _∙_, ap}
+use mathlib.Core.Bool.{true, false}
+use mathlib.Core.List.{List, [], _++_}
+use mathlib.Core.Logic.{_↔_}
+use Prim.Native.Nat.{ℕ, _+_, _*_, _%_, _≤_, _<_, max}
+use native.Mathlib.Omega.{arith}
+use lib.ListN.{length, take, getD}
+use Rattle.aim.specs.declared.Method.the-variants.{Teardown}
+use Rattle.aim.specs.declared.refusals.Refusal.the-variants as refusal
+use Rattle.reader.specs.Request.{methodOf, requestRefusal}
+use Rattle.journal.specs.Calls.{readAt}
+use Rattle.journal.specs.declared.Record.{Record}
+use Rattle.journal.specs.declared.Reading.the-variants.{Sound}
+use Rattle.table.specs.Table.{isOpen, opens, sessionAt, isOn, owns}
+use Rattle.table.specs.Formed.{wellFormed}
+use Rattle.table.specs.Finding.{isHeld}
+use Rattle.table.specs.Made.{fresh}
+use Rattle.table.specs.declared.SatBox.{SatBox}
+use Rattle.table.specs.declared.Outcome.the-variants.{Done}
+use Rattle.steps.specs.Asked.{askedOf, listsOf}
+use Rattle.steps.specs.Cases.{isPassed}
+use Rattle.steps.specs.declared.cases.Case.the-variants.{Passed, Full}
+use Rattle.satbox.specs.Did.{bytesOf}
+use Rattle.satbox.specs.Closing.{isExpired, sweeping}
+use Rattle.satbox.specs.Requests.{requested, replied}
+use Rattle.satbox.proofs.DoesLaws.{bytes-append}
+use Rattle.satbox.proofs.Kept.{whole-formed}
+use Rattle.lives.specs.Calls.{Lent, Call, request, outcomeOf, refusedBy, satboxAfter, journalAfter, recordsIn, uncollected, lacksJournal, isCall}
+use Rattle.lives.specs.Runs.{Life, live, Lives, after}
+use Rattle.lives.specs.Closed.{Closed, placeNamedBy, Sweeps}
+use Rattle.lives.specs.Openings.{PassesElse}
+use Rattle.lives.specs.Audit.{letGo, audited, isTaken, isHolder, holds}
+use Rattle.lives.specs.Moments.{Leads, LetGo}
+use Rattle.lives.proofs.Journals.{counts-at, counts-next}
+use Rattle.lives.proofs.Running.{live-good, after-good, swept-fed, swept-sized}
+use Rattle.lives.proofs.Refusals.{call-gated}
+use Rattle.lives.proofs.Young.{young-after}
+use Rattle.lives.proofs.InCalls.{expired-in, lost-in, torn-in, left-in}
+use Rattle.lives.proofs.Chains.{leads-agree}
+use Rattle.lives.proofs.Audits.{live-leads, after-leads}
+use Rattle.lives.proofs.Answers.{held-agrees}
+use Rattle.lives.proofs.LettingGo.{never-let-go, let-go}
+use Rattle.lives.proofs.ReadingBack.{read-back, after-fit}
+use Rattle.lives.proofs.Rooms.{refused-exactly, passed-exactly}
+
+module _ (frontends size : ℕ) (j : List ℕ) (cs : List Call) where
+  abbrev x : Life
+  x = after frontends size j cs
+
+  module _ (h : Lives frontends size j cs) where
+    -- 1. EVERY REACHABLE BOX IS WELL FORMED (`table/specs/Formed.wellFormed`),
+    pub well-formed : wellFormed (x .satbox) ≡ true
+    well-formed = whole-formed (x .satbox) (after-good h .whole)
+
+    -- so that no call is refused with 1, whatever it is called with (`outcomeOf`, `refusedBy`: document 01's numbers),
+    pub never-refused-by-1 : (c : Call) → refusedBy (outcomeOf c (x .satbox) (x .journal)) ≡ 1 → ⊥
+    never-refused-by-1 c = call-gated (x .satbox) well-formed (x .journal) c .0
+
+    -- and with 2 exactly if it is lent a journal of another length (`lacksJournal`)
+    pub refused-by-2-for-length : (c : Call) → (refusedBy (outcomeOf c (x .satbox) (x .journal)) ≡ 2) ↔ (lacksJournal size c (x .journal) ≡ true)
+    refused-by-2-for-length c =
+        rw (after-good h .sized) at (call-gated (x .satbox) well-formed (x .journal) c .1)
+
+    -- and the box's own journal never is
+    pub journal-has-its-length : length (x .journal) ≡ size
+    journal-has-its-length = after-good h .journal
+
+    -- 2. THE JOURNAL'S FIRST BYTES HELD ARE EXACTLY THE RECORDS, in order, of the openings and closings since the last collection: `since`, which
+    -- the rules give for each call (`recordsIn`) and which is not read off the bytes held; their bytes are `bytesOf`,
+    pub journal-holds-the-records : take (x .satbox .held) (x .journal) ≡ bytesOf (x .since)
+    journal-holds-the-records = after-good h .text
+
+    -- 16 bytes each,
+    pub sixteen-bytes-each : x .satbox .held ≡ 16 * length (x .since)
+    sixteen-bytes-each = after-good h .held
+
+    -- and the sequence numbers run on over collections and wrap: each record has its place in the whole history (`history`), modulo 65,536,
+    pub sequence-runs-on : (i : ℕ) (past : Record) → i < length (x .history) → getD (x .history) i past .sequence ≡ i % 65536
+    sequence-runs-on i past l =
+        counts-at 0 (x .satbox .sequence) (x .history) past (omega arith) (after-good h .sequence) i l ∙ omega arith
+
+    -- and the next one has their number
+    pub sequence-to-come : x .satbox .sequence ≡ length (x .history) % 65536
+    sequence-to-come = counts-next 0 (x .satbox .sequence) (x .history) (omega arith) (after-good h .sequence) ∙ omega arith
+
+    -- A call's own records stand behind those of the calls before it (`uncollected`: those that are not collected by it)
+    pub call-writes-its-records : (c : Call) → isCall size c ≡ true
+        → take (satboxAfter c (x .satbox) (x .journal) .held) (journalAfter c (x .satbox) (x .journal))
+        ≡ bytesOf (uncollected c (x .satbox) (x .journal) (x .since) ++ recordsIn c (x .satbox) (x .journal))
+    unfolding live
+    call-writes-its-records c e = live-good (after-good h) c e .text
+
+    -- 3. BYTES HELD PLUS 16 FOR EACH OPEN SESSION NEVER EXCEED C
+    pub room-for-every-closing : x .satbox .held + 16 * opens (x .satbox) ≤ size
+    room-for-every-closing = omega (arith, after-good h .whole .formed .fits .bound, after-good h .sized)
+
+    -- 4. NO CLOSING IS EVER HELD BACK, in a request or a tick at any clock (`Sweeps`) that was not refused by number: of the sessions open before it
+    module _ (clock : ℕ) (c : Call) (sweeps : Sweeps clock c) (done : outcomeOf c (x .satbox) (x .journal) ≡ Done) where
+      -- each that has expired at the clock used is closed by its sweep, and its record is there (`Closed`; the records of the call are `recordsIn`,
+      -- which `since` then ends with),
+      pub expired-is-closed : (i : ℕ) → isExpired (max (x .satbox .clock) clock) (sessionAt (x .satbox) i) ≡ true
+          → Closed (x .satbox) i (sweeping clock (x .satbox) .satbox) (recordsIn c (x .satbox) (x .journal))
+      expired-is-closed = expired-in clock c sweeps (x .satbox) (x .journal) done (after-good h .whole)
+
+      -- and so is each whose stream loses its owner, at whatever place m
+      pub ownerless-is-closed : (i m : ℕ) → isOpen (sessionAt (x .satbox) i) ≡ true
+          → owns (sessionAt (x .satbox) i .stream) (sessionAt (x .satbox) m) ≡ true → isExpired (max (x .satbox .clock) clock) (sessionAt (x .satbox) m) ≡ true
+          → Closed (x .satbox) i (sweeping clock (x .satbox) .satbox) (recordsIn c (x .satbox) (x .journal))
+      ownerless-is-closed = lost-in clock c sweeps (x .satbox) (x .journal) done (after-good h .whole)
+
+      -- and after the call nothing that is open has expired
+      pub none-expired-is-open : (i : ℕ) → isExpired (max (x .satbox .clock) clock) (sessionAt (satboxAfter c (x .satbox) (x .journal)) i) ≡ false
+      none-expired-is-open = young-after sweeps (x .satbox) (x .journal) done (after-good h .whole)
+
+    -- in a TEARDOWN that is answered 200, after the sweep, so is the session that it names (`placeNamedBy`)
+    module _ (s : List ℕ) (clock address draw : ℕ) (b : List ℕ) (l : Lent) (done : outcomeOf (request s clock address draw b l) (x .satbox) (x .journal) ≡ Done)
+        (tears : methodOf s ≡ Teardown) (passed : isPassed (requested s clock address draw (x .satbox) .case) ≡ true) where
+      abbrev v : SatBox
+      v = sweeping clock (x .satbox) .satbox
+
+      abbrev place : ℕ
+      place = placeNamedBy s v
+
+      abbrev c : Call
+      c = request s clock address draw b l
+
+      pub torn-down-is-closed : Closed v place (satboxAfter c (x .satbox) (x .journal)) (recordsIn c (x .satbox) (x .journal))
+      unfolding replied
+      torn-down-is-closed = torn-in s clock address draw b l (x .satbox) (x .journal) done (after-good h .whole) tears passed
+
+      -- and with an owner each that was on its stream
+      pub left-by-owner-is-closed : (sessionAt v place .owner ≡ 0 → ⊥) → (i : ℕ) → isOn (sessionAt v place .stream) (sessionAt v i) ≡ true
+          → Closed v i (satboxAfter c (x .satbox) (x .journal)) (recordsIn c (x .satbox) (x .journal))
+      unfolding replied
+      left-by-owner-is-closed = left-in s clock address draw b l (x .satbox) (x .journal) done (after-good h .whole) tears passed
+
+    -- 5. AN OPENING THAT PASSES EVERY OTHER CHECK (`requestRefusal`: steps 1 to 10; `PassesElse`: the others), with any bytes s, at any clock,
+    module _ (s : List ℕ) (clock address draw : ℕ) where
+      -- on the box after expired sessions are closed,
+      abbrev u : SatBox
+      u = sweeping clock (x .satbox) .satbox
+
+      module _ (read : requestRefusal frontends s ≡ refusal.Passed) (else : PassesElse u (askedOf frontends s) (listsOf s)) where
+        -- is refused for journal room, step 18, exactly if bytes held, plus 16 for each open session, plus 32, exceed C; both directions
+        pub refused-for-room : (requested s clock address draw (x .satbox) .case ≡ Full) ↔ (size < u .held + 16 * opens u + 32)
+        unfolding requested
+        refused-for-room = refused-exactly frontends size s address draw u (swept-fed h clock) (swept-sized h clock) read else
+
+        -- and else it passes
+        pub passed-with-room : u .held + 16 * opens u + 32 ≤ size → requested s clock address draw (x .satbox) .case ≡ Passed
+        unfolding requested
+        passed-with-room = passed-exactly frontends size s address draw u (swept-fed h clock) (swept-sized h clock) read else
+
+    -- 6. WHAT WAS COLLECTED, JOINED (`gathered`), FOLLOWED BY WHAT IS HELD, IS THE WHOLE HISTORY'S RECORDS: nothing is lost or written twice
+    pub collected-and-held : x .gathered ++ take (x .satbox .held) (x .journal) ≡ bytesOf (x .history)
+    collected-and-held =
+        let g = after-good h in
+        rw (g .text, g .gathered, ← bytes-append) (ap bytesOf (sym (g .split)))
+
+    -- and collected were the records before the last collection, held are those since
+    pub collected-then-held : (past : List Record) × (x .history ≡ past ++ x .since) × (x .gathered ≡ bytesOf past)
+    collected-then-held = let g = after-good h in (g .past, g .split, g .gathered)
+
+    -- and whoever has these bytes has the history: read at each place (`journal/specs/Calls.readAt`), they are its records
+    pub history-is-read-back : (i : ℕ) (past : Record) → i < length (x .history)
+        → readAt (x .gathered ++ take (x .satbox .held) (x .journal)) i ≡ Sound (getD (x .history) i past)
+    history-is-read-back i past l =
+        let g = after-good h in
+        rw collected-and-held (read-back (x .history) (x .satbox .sequence) (g .recorded) (after-fit h) (g .sequence) i past l)
+
+    -- 7. THE AUDITOR'S THREE QUESTIONS HAVE ANSWERS from the history alone (`audited`, which reads nothing but records):
+    -- the frontends held, which are those that the table's streams have;
+    pub held-frontends : (f : ℕ) → (f ≡ 0 → ⊥) → isHeld f (x .satbox .streams) ≡ isTaken (audited f (x .history))
+    held-frontends f z = held-agrees (x .history) (x .satbox) (after-good h .whole) (leads-agree (after-leads h)) f z
+
+    -- the session that owns each, which is the open session that owns its stream (`holds`);
+    pub owner-of-each : (f n : ℕ) → (f ≡ 0 → ⊥) → holds (x .satbox) f n ≡ isHolder n (audited f (x .history))
+    owner-of-each = leads-agree (after-leads h) .same
+
+    -- and for each that let go, when: at that record the table's session let it go, at that clock of the table (`LetGo`)
+    pub when-let-go : (f n clock : ℕ) → (f ≡ 0 → ⊥) → audited f (x .history) ≡ letGo n clock → LetGo [] (fresh frontends size) (x .history) (x .satbox) f n clock
+    when-let-go f n clock z e = let-go f n clock z (λ q. never-let-go q) (after-leads h) e
+
+    -- AT EVERY RECORD these agree with the table at that moment: the life is a chain of tables from the fresh box to this one (`Leads`). Each record is
+    -- written by one step of it, which is an opening or a closing in the table (`Notes`); no other step opens or closes anything (`Quiet`); and after
+    -- each step the history so far and the table agree (`Agree`)
+    pub agree-at-every-record : Leads [] (fresh frontends size) (x .history) (x .satbox)
+    agree-at-every-record = after-leads h
+
+    -- and so is each call of it, from the box before it to the box after it
+    pub agree-within-a-call : (c : Call) → isCall size c ≡ true → Leads (x .history) (x .satbox) (live c x .history) (live c x .satbox)
+    agree-within-a-call c e = live-leads (after-good h) (leads-agree (after-leads h)) c e

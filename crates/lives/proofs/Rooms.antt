@@ -1,0 +1,101 @@
+-- An opening that passes every other check is refused for the journal's room alone. Assumes nothing.
+use mathlib.Core.Path.{_≡_, refl, _∙_, ap, subst}
+use mathlib.Core.Bool.{true, false, not}
+use mathlib.Core.List.{List}
+use mathlib.Core.Logic.{_↔_}
+use Prim.Native.Nat.{ℕ, _+_, _*_, _≤_, _<_}
+use native.Mathlib.Decide.{decLt}
+use native.Mathlib.Omega.{arith}
+use borrow.Author.Tests.{ne-eqb, eq-eqb, lt-leb, le-leb}
+use Rattle.scan.proofs.Bools.{never, and-both, by-cases, Same, same, other, sames}
+use Rattle.aim.specs.declared.Method.{Method}
+use Rattle.aim.specs.declared.Method.the-variants.{Options, Setup, Play, Teardown, Other}
+use Rattle.aim.specs.declared.refusals.Refusal.the-variants as refusal
+use Rattle.reader.specs.Request.{requestRefusal}
+use Rattle.table.specs.Table.{opens, streamOf, isLive}
+use Rattle.table.specs.declared.SatBox.{SatBox}
+use Rattle.steps.specs.Asked.{Asked, Lists, askedOf, listsOf}
+use Rattle.steps.specs.Sights.{sightOf}
+use Rattle.steps.specs.Cases.{_refuses_or_}
+use Rattle.steps.specs.Steps.{isSetup, isDead}
+use Rattle.steps.specs.declared.cases.Case.{Case}
+use Rattle.steps.specs.declared.cases.Case.the-variants.{Passed, Full}
+use Rattle.satbox.specs.Opening.{hasRoom}
+use Rattle.satbox.specs.Serving.{canSeat, changeCase, caseOf, Serving, served}
+use Rattle.satbox.specs.Requests.{clientOf, answered}
+use Rattle.satbox.specs.declared.opening.Client.{Client}
+use Rattle.satbox.proofs.Passing.{untested}
+use Rattle.satbox.proofs.RequestLaws.{grant-passes}
+use Rattle.lives.specs.Openings.{PassesElse}
+
+setup-only : (m : Method) → isSetup m ≡ true → m ≡ Setup
+setup-only Options e = never e refl
+setup-only Setup e = refl
+setup-only Play e = never e refl
+setup-only Teardown e = never e refl
+setup-only Other e = never e refl
+
+module _ (t : SatBox) (a : Asked) (l : Lists) (p : PassesElse t a l) where
+  -- a stream that is named is live, by step 12
+  live : (sightOf t a .stream ≡ 0 → ⊥) → isLive (streamOf t (sightOf t a .stream)) ≡ true
+  unfolding isDead sightOf
+  live some =
+      let m = setup-only (sightOf t a .method) (and-both (isSetup (sightOf t a .method)) _ (p .opening) .0) in
+      rw (rw (m, ne-eqb (sightOf t a .stream) 0 some) at (untested (sightOf t a) (p .seen) .stream))
+
+  -- of what an opening takes, only the room is open
+  seat-is-room : canSeat t (sightOf t a) ≡ hasRoom t
+  seat-is-room = by (sames (sightOf t a .stream) 0)
+    where
+      by : Same (sightOf t a .stream) 0 → canSeat t (sightOf t a) ≡ hasRoom t
+      by (same z) = rw (eq-eqb (sightOf t a .stream) 0 z, p .place, rw (eq-eqb (sightOf t a .stream) 0 z) at (p .frontend))
+      by (other z) = rw (ne-eqb (sightOf t a .stream) 0 z, p .place, live z)
+
+  case-is : caseOf t a l ≡ (not (hasRoom t) refuses Full or Passed)
+  unfolding caseOf changeCase
+  case-is = rw (p .seen, p .combination, p .pids, p .opening, seat-is-room)
+
+  module _ (client : Client) where
+    pub full-case : hasRoom t ≡ false → served t a l client .case ≡ Full
+    unfolding served
+    full-case e = let c : caseOf t a l ≡ Full = case-is ∙ rw e in rw c
+
+    pub passed-case : hasRoom t ≡ true → served t a l client .case ≡ Passed
+    unfolding served
+    passed-case e = let c : caseOf t a l ≡ Passed = case-is ∙ rw e in rw c (grant-passes (a .method) t a l client)
+
+full-not-passed : {c : Case} → c ≡ Full → c ≡ Passed → ⊥
+full-not-passed p q = let z : _≡_ {A = ℕ} 0 1 = cc in omega arith
+
+module _ (s : List ℕ) (address draw : ℕ) (t : SatBox) (read : requestRefusal (t .frontends) s ≡ refusal.Passed) (p : PassesElse t (askedOf (t .frontends) s) (listsOf s)) where
+  answered-is : answered s address draw t ≡ served t (askedOf (t .frontends) s) (listsOf s) (clientOf address draw (askedOf (t .frontends) s))
+  unfolding answered
+  answered-is = rw read
+
+  without-room : t .size < t .held + 16 * opens t + 32 → answered s address draw t .case ≡ Full
+  without-room h =
+      ap (λ (x : Serving). x .case) answered-is
+      ∙ full-case t (askedOf (t .frontends) s) (listsOf s) p (clientOf address draw (askedOf (t .frontends) s)) (lt-leb (t .held + 16 * opens t + 32) (t .size) h)
+
+  with-room : t .held + 16 * opens t + 32 ≤ t .size → answered s address draw t .case ≡ Passed
+  with-room h =
+      ap (λ (x : Serving). x .case) answered-is
+      ∙ passed-case t (askedOf (t .frontends) s) (listsOf s) p (clientOf address draw (askedOf (t .frontends) s)) (le-leb (t .held + 16 * opens t + 32) (t .size) h)
+
+  room-exactly : (answered s address draw t .case ≡ Full) ↔ (t .size < t .held + 16 * opens t + 32)
+  room-exactly =
+      (λ e. by-cases (decLt (t .size) (t .held + 16 * opens t + 32)) (λ h. h) (λ h. absurd (full-not-passed e (with-room (omega arith)))), without-room)
+
+-- the same of a swept box t with so many frontends and so large a journal
+module _ (frontends size : ℕ) (s : List ℕ) (address draw : ℕ) (t : SatBox) (f : t .frontends ≡ frontends) (z : t .size ≡ size) where
+  pub refused-exactly : requestRefusal frontends s ≡ refusal.Passed → PassesElse t (askedOf frontends s) (listsOf s)
+      → (answered s address draw t .case ≡ Full) ↔ (size < t .held + 16 * opens t + 32)
+  refused-exactly =
+      subst (λ n. requestRefusal n s ≡ refusal.Passed → PassesElse t (askedOf n s) (listsOf s) → (answered s address draw t .case ≡ Full) ↔ (size < t .held + 16 * opens t + 32)) f
+      (λ read p. let q = room-exactly s address draw t read p in (λ e. omega (arith, q .0 e), λ h. q .1 (omega arith)))
+
+  pub passed-exactly : requestRefusal frontends s ≡ refusal.Passed → PassesElse t (askedOf frontends s) (listsOf s)
+      → t .held + 16 * opens t + 32 ≤ size → answered s address draw t .case ≡ Passed
+  passed-exactly =
+      subst (λ n. requestRefusal n s ≡ refusal.Passed → PassesElse t (askedOf n s) (listsOf s) → t .held + 16 * opens t + 32 ≤ size → answered s address draw t .case ≡ Passed) f
+      (λ read p h. with-room s address draw t read p (omega arith))

@@ -1,0 +1,112 @@
+-- Each call keeps what every life keeps (`Holding`), and so does any run of them. Assumes nothing.
+use mathlib.Core.Path.{_≡_, refl, _∙_}
+use mathlib.Core.Bool.{Bool, true, false}
+use mathlib.Core.List.{List, [], _∷_}
+use Prim.Native.Nat.{ℕ}
+use native.Mathlib.Omega.{arith}
+use borrow.Author.Tests.{ltb-true, not-true}
+use Rattle.scan.specs.Lists.{all}
+use Rattle.scan.proofs.Bools.{never, and-both}
+use Rattle.table.specs.Formed.{wellFormed}
+use Rattle.table.specs.declared.SatBox.{SatBox}
+use Rattle.table.specs.declared.Refusal.{Refusal}
+use Rattle.table.specs.declared.Refusal.the-variants.{Table, Journal}
+use Rattle.table.specs.declared.Outcome.{Outcome}
+use Rattle.table.specs.declared.Outcome.the-variants.{Refused}
+use Rattle.satbox.specs.Closing.{sweeping, atClock}
+use Rattle.satbox.specs.Calls.{_else_andThen_, isJournal, tickOutcome, ticked, tickedJournal, collectOutcome, collected, collectedInto}
+use Rattle.satbox.specs.Requests.{requestOutcome, requested, replied, repliedJournal}
+use Rattle.satbox.proofs.Closings.{swept-fine}
+use Rattle.satbox.proofs.Keeping.{Whole, whole-roomy, clock-whole}
+use Rattle.satbox.proofs.Kept.{sweeping-whole, collect-whole}
+use Rattle.satbox.proofs.RecordLaws.{swept-numbered}
+use Rattle.satbox.proofs.Recorded.{swept-recorded}
+use Rattle.promises.proofs.Reading.{request-whole, request-recorded}
+use Rattle.promises.proofs.Written.{Counted, requested-counted}
+use Rattle.lives.specs.Calls.{own, other, Call, request, tick, collect, order, isShort, isLent, isCall}
+use Rattle.lives.specs.Runs.{Life, live, run, Lives, after}
+use Rattle.lives.proofs.Settings.{sweeping-set, requested-set}
+use Rattle.lives.proofs.Holding.{Good, born-good, Works, worked, emptiedInto, same-good, worked-good, collected-good}
+
+-- a call that is lent other bytes than the box's journal, of another length, is refused
+pub refused-away : (P : Outcome → Type 0) (a b : Bool) (o : Outcome) → b ≡ false → ((r : Refusal) → P (Refused r)) → P (a else Table andThen b else Journal andThen o)
+refused-away P true true o e h = never refl e
+refused-away P true false o e h = h Journal
+refused-away P false b o e h = h Table
+
+not-lent : (size : ℕ) (t : SatBox) (k : List ℕ) → t .size ≡ size → isLent size (other k) ≡ true → isJournal t k ≡ false
+not-lent size t k e h = rw e (not-true _ h)
+
+sweeping-counted : (clock : ℕ) (t : SatBox) → Whole t → Counted t (sweeping clock t)
+unfolding atClock
+sweeping-counted clock t w =
+    let r = whole-roomy (atClock clock t) (clock-whole clock t w) in
+    record { held = swept-fine (atClock clock t) r .held; sequence = swept-numbered (atClock clock t) r }
+
+-- EACH CALL
+module _ {frontends size : ℕ} {x : Life} (g : Good frontends size x) where
+  sweeping-works : (clock : ℕ) → isShort clock ≡ true → Works (x .satbox) (sweeping clock (x .satbox))
+  sweeping-works clock h =
+      let t = x .satbox in
+      let f = sweeping-set clock t (g .whole) in
+      record {
+        whole = sweeping-whole clock t (g .whole);
+        counted = sweeping-counted clock t (g .whole);
+        recorded = swept-recorded (atClock clock t) (clock-whole clock t (g .whole));
+        size = f .size;
+        frontends = f .frontends;
+        clock = omega (arith, f .clock, g .clock, ltb-true clock 4294967296 h);
+      }
+
+  requested-works : (s : List ℕ) (clock address draw : ℕ) → isShort clock ≡ true → isShort draw ≡ true → Works (x .satbox) (requested s clock address draw (x .satbox) .did)
+  requested-works s clock address draw h short =
+      let t = x .satbox in
+      let f = requested-set s clock address draw t (g .whole) in
+      let d = ltb-true draw 4294967296 short in
+      record {
+        whole = request-whole s clock address draw d t (g .whole);
+        counted = requested-counted s address draw clock t (g .whole);
+        recorded = request-recorded s clock address draw d t (g .whole);
+        size = f .size;
+        frontends = f .frontends;
+        clock = omega (arith, f .clock, g .clock, ltb-true clock 4294967296 h);
+      }
+
+  pub live-good : (c : Call) → isCall size c ≡ true → Good frontends size (live c x)
+  unfolding live replied repliedJournal ticked tickedJournal collected collectedInto
+  live-good (request s clock address draw b own) e =
+      let p = and-both (isShort clock) _ e in
+      let q = and-both (isShort draw) _ (and-both (isShort address) _ (p .1) .1) in
+      worked-good g (requestOutcome (x .satbox) (x .journal) b) (requested s clock address draw (x .satbox) .did) (requested-works s clock address draw (p .0) (q .0))
+  live-good (request s clock address draw b (other k)) e =
+      let p = and-both (isShort clock) _ e in
+      let q = and-both (isShort draw) _ (and-both (isShort address) _ (p .1) .1) in
+      refused-away (λ (o : Outcome). Good frontends size (worked (other k) o (requested s clock address draw (x .satbox) .did) x)) (wellFormed (x .satbox)) (isJournal (x .satbox) k) _
+      (not-lent size (x .satbox) k (g .sized) (q .1)) (λ r. same-good g)
+  live-good (tick clock own) e =
+      worked-good g (tickOutcome (x .satbox) (x .journal)) (sweeping clock (x .satbox)) (sweeping-works clock (and-both (isShort clock) _ e .0))
+  live-good (tick clock (other k)) e =
+      refused-away (λ (o : Outcome). Good frontends size (worked (other k) o (sweeping clock (x .satbox)) x)) (wellFormed (x .satbox)) (isJournal (x .satbox) k) _
+      (not-lent size (x .satbox) k (g .sized) (and-both (isShort clock) _ e .1)) (λ r. same-good g)
+  live-good (collect b own) e =
+      collected-good g (collectOutcome (x .satbox) (x .journal) b) b (collect-whole (x .satbox) (x .journal) b (g .whole))
+  live-good (collect b (other k)) e =
+      refused-away (λ (o : Outcome). Good frontends size (emptiedInto (other k) o b x)) (wellFormed (x .satbox)) (isJournal (x .satbox) k) _
+      (not-lent size (x .satbox) k (g .sized) e) (λ r. same-good g)
+  live-good (order n) e = same-good g
+
+-- ALL OF THEM
+run-good : {frontends size : ℕ} (cs : List Call) {x : Life} → all (isCall size) cs ≡ true → Good frontends size x → Good frontends size (run cs x)
+run-good [] e g = g
+run-good {size = size} (c ∷ cs) e g = let p = and-both (isCall size c) _ e in run-good cs (p .1) (live-good g c (p .0))
+
+pub after-good : {frontends size : ℕ} {j : List ℕ} {cs : List Call} → Lives frontends size j cs → Good frontends size (after frontends size j cs)
+after-good {frontends} {size} {j} {cs} h = run-good cs (h .calls) (born-good frontends size j (h .sizes) (h .journal))
+
+-- and the box after expired sessions are closed has its frontends and its size still
+module _ {frontends size : ℕ} {j : List ℕ} {cs : List Call} (h : Lives frontends size j cs) (clock : ℕ) where
+  pub swept-fed : sweeping clock (after frontends size j cs .satbox) .satbox .frontends ≡ frontends
+  swept-fed = sweeping-set clock (after frontends size j cs .satbox) (after-good h .whole) .frontends ∙ after-good h .fed
+
+  pub swept-sized : sweeping clock (after frontends size j cs .satbox) .satbox .size ≡ size
+  swept-sized = sweeping-set clock (after frontends size j cs .satbox) (after-good h .whole) .size ∙ after-good h .sized

@@ -1,0 +1,77 @@
+-- A TEARDOWN that is answered 200 closes the session that it names and, where that owns its stream, each other on it. Assumes nothing.
+use mathlib.Core.Path.{_≡_, sym, _∙_, ap, subst}
+use mathlib.Core.Bool.{true}
+use mathlib.Core.List.{List}
+use Prim.Native.Nat.{ℕ}
+use lib.ListN.{getD}
+use Rattle.scan.proofs.Bools.{never, and-both}
+use Rattle.aim.specs.declared.Method.the-variants.{Teardown}
+use Rattle.reader.specs.Request.{methodOf}
+use Rattle.table.specs.Table.{noSession, isOpen, sessionAt, isOn}
+use Rattle.table.specs.declared.Session.{Session}
+use Rattle.table.specs.declared.SatBox.{SatBox}
+use Rattle.table.proofs.Changes.{opened}
+use Rattle.steps.specs.Asked.{Asked, Lists, askedOf, listsOf}
+use Rattle.steps.specs.Sights.{sightOf}
+use Rattle.steps.specs.Cases.{isPassed}
+use Rattle.satbox.specs.Did.{Did}
+use Rattle.satbox.specs.Does.{Closable}
+use Rattle.satbox.specs.Closing.{closing}
+use Rattle.satbox.specs.Serving.{Serving, served}
+use Rattle.satbox.specs.Requests.{clientOf, answered}
+use Rattle.satbox.specs.declared.opening.Client.{Client}
+use Rattle.satbox.proofs.Keeping.{Whole, owner-sessions}
+use Rattle.promises.proofs.Passing.{served-by, tears-closable}
+use Rattle.promises.proofs.Requests.{answered-by}
+use Rattle.promises.proofs.Records.{closed-is}
+use Rattle.lives.specs.Closed.{Closed, placeNamedBy}
+use Rattle.lives.proofs.Fates.{getD-clear, closing-fates, closed-here}
+use Rattle.lives.proofs.Sweeps.{left-closed}
+
+module _ (cause place : ℕ) (t : SatBox) (c : Closable t place) where
+  -- an open session whose place is free afterwards is closed
+  free-closed : (i : ℕ) → (sessionAt t i .number ≡ 0 → ⊥) → sessionAt (closing cause place t .satbox) i ≡ noSession → Closed t i (closing cause place t .satbox) (closing cause place t .records)
+  free-closed i some e =
+      let f = closing-fates cause place t c in
+      left-closed t (closing cause place t) f i (f .each i) (λ q. some (ap (λ (x : Session). x .number) (sym q ∙ e)))
+
+  -- whoever was on the stream of an owner that closes
+  freed-with : Whole t → (sessionAt t place .owner ≡ 0 → ⊥) → (i : ℕ) → isOn (sessionAt t place .stream) (sessionAt t i) ≡ true → sessionAt (closing cause place t .satbox) i ≡ noSession
+  freed-with w own i on =
+      let id = sessionAt t place .stream in
+      ap (λ (l : List Session). getD l i noSession) (owner-sessions cause place t c w own) ∙ (getD-clear id (t .sessions) i ∙ rw on)
+
+-- what it does
+record Torn (t : SatBox) (place : ℕ) (d : Did) : Type 0 where
+  is : d ≡ closing 1 place t
+  closable : Closable t place
+
+served-torn : (t : SatBox) (a : Asked) (l : Lists) (client : Client) → Whole t → a .method ≡ Teardown → isPassed (served t a l client .case) ≡ true → Torn t (sightOf t a .place) (served t a l client .did)
+served-torn t a l client w e y =
+    record {
+      is = ap (λ (x : Serving). x .did) (closed-is t a l client y e);
+      closable =
+          served-by t a l client (λ (x : Serving). isPassed (x .case) ≡ true → Closable t (sightOf t a .place)) (λ p q n. tears-closable t a w p e) (λ n p. never p n) y;
+    }
+
+answered-torn : (s : List ℕ) (address draw : ℕ) (t : SatBox) → Whole t → methodOf s ≡ Teardown → isPassed (answered s address draw t .case) ≡ true → Torn t (placeNamedBy s t) (answered s address draw t .did)
+unfolding sightOf
+answered-torn s address draw t w e =
+    let a = askedOf (t .frontends) s in
+    answered-by s address draw t (λ (x : Serving). isPassed (x .case) ≡ true → Torn t (sightOf t a .place) (x .did))
+    (λ r. served-torn t a (listsOf s) (clientOf address draw a) w e) (λ n p. never p n)
+
+module _ (s : List ℕ) (address draw : ℕ) (t : SatBox) (w : Whole t) (tears : methodOf s ≡ Teardown) (passed : isPassed (answered s address draw t .case) ≡ true) where
+  torn : Torn t (placeNamedBy s t) (answered s address draw t .did)
+  torn = answered-torn s address draw t w tears passed
+
+  -- THE SESSION THAT IT NAMES
+  pub torn-closed : Closed t (placeNamedBy s t) (answered s address draw t .did .satbox) (answered s address draw t .did .records)
+  torn-closed = subst (λ (d : Did). Closed t (placeNamedBy s t) (d .satbox) (d .records)) (sym (torn .is))
+      (free-closed 1 (placeNamedBy s t) t (torn .closable) (placeNamedBy s t) (torn .closable .some) (closed-here 1 (placeNamedBy s t) t (torn .closable)))
+
+  -- AND WHO WAS ON ITS STREAM, where it owned it
+  pub left-with-owner : (sessionAt t (placeNamedBy s t) .owner ≡ 0 → ⊥) → (i : ℕ) → isOn (sessionAt t (placeNamedBy s t) .stream) (sessionAt t i) ≡ true
+      → Closed t i (answered s address draw t .did .satbox) (answered s address draw t .did .records)
+  left-with-owner own i on = subst (λ (d : Did). Closed t i (d .satbox) (d .records)) (sym (torn .is))
+      (free-closed 1 (placeNamedBy s t) t (torn .closable) i (opened (sessionAt t i) (and-both (isOpen (sessionAt t i)) _ on .0)) (freed-with 1 (placeNamedBy s t) t (torn .closable) w own i on))

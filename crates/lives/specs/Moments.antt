@@ -1,0 +1,52 @@
+-- A box's life table by table: each change of the box is one of those below, each record is written by one of them, and after each the
+-- history so far and the table agree (`Agree`). Assumes nothing.
+use Prim.Native.Nat.{ℕ}
+use mathlib.Core.Path.{_≡_}
+use mathlib.Core.Bool.{true, false}
+use mathlib.Core.List.{List, _++_}
+use Rattle.journal.specs.declared.Record.{Record}
+use Rattle.stream.specs.declared.Stream.{Stream}
+use Rattle.table.specs.Counts.{count}
+use Rattle.table.specs.Table.{sessionAt, streamOf, isOn}
+use Rattle.table.specs.declared.Session.{Session}
+use Rattle.table.specs.declared.SatBox.{SatBox}
+use Rattle.satbox.specs.Did.{Did, restreamed, noting}
+use Rattle.satbox.specs.Closing.{closeOne, atClock}
+use Rattle.satbox.specs.Calls.{emptied}
+use Rattle.satbox.specs.Serving.{replaced}
+use Rattle.lives.specs.Audit.{holds, Agree}
+
+-- THE CHANGES THAT WRITE NOTHING open and close no session: another clock; a stream that no open session is on, made or freed; a query merged into a
+-- stream, which keeps its frontend; a session changed in its place, which keeps its number, its stream and whether it owns it; and a collection
+pub data Quiet (t : SatBox) : SatBox → Type 0 where
+  clocked : (clock : ℕ) → Quiet t (atClock clock t)
+  restream : (id : ℕ) (m : Stream) → count (isOn id) (t .sessions) ≡ 0 → Quiet t (restreamed id m t)
+  retune : (id : ℕ) (m : Stream) → m .frontend ≡ streamOf t id .frontend → Quiet t (restreamed id m t)
+  replace : (place : ℕ) (s : Session) → s .number ≡ sessionAt t place .number → s .stream ≡ sessionAt t place .stream → s .owner ≡ sessionAt t place .owner
+      → Quiet t (replaced place s t)
+  empty : Quiet t (emptied t)
+
+-- THE CHANGES THAT WRITE A RECORD: a session with a number comes to a free place, as an owner or as a joiner; and an open session closes
+pub data Notes (t : SatBox) : Did → Type 0 where
+  opens : (s : Session) (place : ℕ) → sessionAt t place .number ≡ 0 → (s .number ≡ 0 → ⊥) → (s .owner ≡ 0 → ⊥) → Notes t (noting 1 0 s place s t)
+  joins : (s : Session) (place : ℕ) → sessionAt t place .number ≡ 0 → (s .number ≡ 0 → ⊥) → s .owner ≡ 0 → Notes t (noting 2 0 s place s t)
+  closes : (cause place : ℕ) → (sessionAt t place .number ≡ 0 → ⊥) → Notes t (closeOne cause place t)
+
+-- from the history h and the table t to the history k and the table u, record by record
+pub data Leads (h : List Record) (t : SatBox) : List Record → SatBox → Type 0 where
+  begun : Agree h t → Leads h t h t
+  quiet : {k : List Record} {u v : SatBox} → Leads h t k u → Quiet u v → Agree k v → Leads h t k v
+  noted : {k : List Record} {u : SatBox} {d : Did} → Leads h t k u → Notes u d → Agree (k ++ d .records) (d .satbox) → Leads h t (k ++ d .records) (d .satbox)
+
+-- on the way from h and t to k and u the session n let the frontend f go at a clock: there is a record at which it did, at that clock of the
+-- table; in the table before it n holds f, and in the table after it n does not
+pub record LetGo (h : List Record) (t : SatBox) (k : List Record) (u : SatBox) (f n clock : ℕ) : Type 0 where
+  pub past : List Record
+  pub before : SatBox
+  pub closing : Did
+  pub reached : Leads h t past before
+  pub notes : Notes before closing
+  pub onward : Leads (past ++ closing .records) (closing .satbox) k u
+  pub held : holds before f n ≡ true
+  pub freed : holds (closing .satbox) f n ≡ false
+  pub when : closing .satbox .clock ≡ clock
