@@ -292,25 +292,23 @@ pub(crate) fn perform(t: SatBox, journal: &mut [u8], turn: Turn) -> SatBox
     if id != 0 {
         u.streams[id - 1] = m;
     }
-    if SatBox::SESSIONS <= place {
-        return u;
-    }
     let s = turn.seat;
-    u.sessions[place] = s;
-    if turn.kind == 0 {
-        return u;
+    if place < SatBox::SESSIONS {
+        u.sessions[place] = s;
     }
-    let record = Record {
-        kind: turn.kind,
-        cause: 0,
-        clock: t.clock,
-        session: s.number,
-        stream: s.stream,
-        frontend: u.streams[s.stream as usize - 1].frontend,
-        sequence: t.sequence,
-    };
-    journal::put(journal, t.held as usize, record);
-    u.held = t.held + SatBox::RECORD;
-    u.sequence = journal::next_sequence(t.sequence);
+    if turn.kind != 0 {
+        let record = Record {
+            kind: turn.kind,
+            cause: 0,
+            clock: t.clock,
+            session: s.number,
+            stream: s.stream,
+            frontend: u.streams[s.stream as usize - 1].frontend,
+            sequence: t.sequence,
+        };
+        journal::put(journal, t.held as usize, record);
+        u.held = t.held + SatBox::RECORD;
+        u.sequence = journal::next_sequence(t.sequence);
+    }
     u
 }
