@@ -14,4 +14,6 @@ pub mod ServingLaws
 pub mod Branching
 pub mod Ends
 pub mod Turns
+pub mod Looking
+pub mod Performing
 pub mod RequestLaws

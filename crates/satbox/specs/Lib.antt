@@ -4,5 +4,5 @@ pub mod Closing
 pub mod Opening
 pub mod Calls
 pub mod Serving
-pub mod Branches
 pub mod Requests
+pub mod Branches
