@@ -11,7 +11,7 @@ whole : (d : tie.Start) → Whole (d .args .t)
 whole d = formed-whole (d .args .t) (d .pre .through .servable .formed) (let g = d .good .0 in search (known, g)) (let g = d .good .0 in search (known, g))
 
 close-requires : tie.Need-close-requires
-close-requires c κs = let d = c .before .before .before .before in leaving-closable _ _ _ (d .args .v) (d .pre) (whole d)
+close-requires c κs = let d = c .before .before .before .before in (d .pre .through .servable .formed, leaving-closable _ _ _ (d .args .v) (d .pre) (whole d))
 
 returns : tie.Need-returns
 returns c =
