@@ -9,6 +9,7 @@ pub mod RecordLaws
 pub mod Kept
 pub mod Leaving
 pub mod Recorded
+pub mod Dues
 pub mod Passing
 pub mod ServingLaws
 pub mod Branching

@@ -1,7 +1,9 @@
 // What a request comes to once it was read: steps 11 to 18, and the change where none of them refuses. A table that is handed on is
 // copied: what is needed of it is looked up before, and it is changed at the end, in one place (`perform`).
 ghost use mathlib.Core.Path.{_≡_};
+ghost use mathlib.Core.Bool.{true};
 ghost use Rattle.stream.specs.Merging.{mergeOf};
+ghost use Rattle.table.specs.Formed.{wellFormed};
 ghost use Rattle.steps.specs.Asked.{listBy, Told};
 ghost use Rattle.satbox.specs.Does.{Does};
 ghost use Rattle.satbox.specs.Serving.{refreshed, atPort, playing, after};
@@ -279,7 +281,7 @@ pub(crate) fn turn_of(
 
 // Changes the table as a turn says, and writes its record.
 pub(crate) fn perform(t: SatBox, journal: &mut [u8], turn: Turn) -> SatBox
-    requires { ⌜ Performable t turn ⌝ }
+    requires { ⌜ (wellFormed t ≡ true) × Performable t turn ⌝ }
     ensures { λ r. ⌜ Does t (now (journal .entry)) (performed turn t) r (now (journal .exit)) ⌝ }
 {
     let place = turn.place;
