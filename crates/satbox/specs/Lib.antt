@@ -1,5 +1,6 @@
 pub mod Did
 pub mod Does
+pub mod Stamps
 pub mod Closing
 pub mod Opening
 pub mod Calls
