@@ -5,7 +5,7 @@ use Prim.Native.Nat.{ℕ, _+_, _-_, _≤_}
 use lib.ListN.{length, set}
 use lib.Seq.{set-out}
 use borrow.Author.Tests.{eq-eqb, ne-eqb}
-use Rattle.digits.specs.Wrote.{Wrote}
+use Rattle.digits.specs.Wrote.{written}
 use Rattle.digits.proofs.Writes.{written-none}
 use Rattle.journal.specs.Records.{nextSequence}
 use Rattle.journal.specs.Bytes.{encoded}
@@ -60,10 +60,10 @@ module _ (x : Turn) (t : SatBox) {u : SatBox} {j : List ℕ} (n : x .kind ≡ 3 
       rw (ne-eqb (x .kind) 3 n, eq-eqb (x .kind) 0 z) (record { satbox = e; journal = sym (written-none j (t .held)) })
 
   -- AN OPENING
-  pub performed-seats : {k : List ℕ} {feed number next : ℕ} → (x .kind ≡ 0 → ⊥) → feed ≡ streamOf u (x .seat .stream) .frontend → number ≡ nextSequence (t .sequence)
-      → Wrote j (t .held) (encoded (record { kind = x .kind; cause = 0; clock = t .clock; session = x .seat .number; stream = x .seat .stream; frontend = feed; sequence = t .sequence })) k next
+  pub performed-seats : {k : List ℕ} {feed number : ℕ} → (x .kind ≡ 0 → ⊥) → feed ≡ streamOf u (x .seat .stream) .frontend → number ≡ nextSequence (t .sequence)
+      → k ≡ written j (t .held) (encoded (record { kind = x .kind; cause = 0; clock = t .clock; session = x .seat .number; stream = x .seat .stream; frontend = feed; sequence = t .sequence }))
       → Does t j (performed x t) (record { sessions = u .sessions; streams = u .streams; size = u .size; held = t .held + 16; clock = u .clock; sequence = number; frontends = u .frontends }) k
   unfolding performed restreamed replaced noting reseated
   performed-seats z f s w =
       rw (ne-eqb (x .kind) 3 n, ne-eqb (x .kind) 0 z)
-      (record { satbox = rw (e, s); journal = rw (append-nil, ← rw e at f) (w .is) })
+      (record { satbox = rw (e, s); journal = rw (append-nil, ← rw e at f) w })

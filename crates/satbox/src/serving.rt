@@ -8,10 +8,12 @@ ghost use Rattle.steps.specs.Asked.{listBy, Told};
 ghost use Rattle.satbox.specs.Does.{Does};
 ghost use Rattle.satbox.specs.Serving.{refreshed, atPort, playing, after};
 ghost use Rattle.satbox.specs.Branches.{deniedAs, reseatedAs, seatedAs, leftAs, firstCase, opensNow, Tells, OpensAs, RetunesAs, SetsUpAs, TurnsAs, Performable, performed};
+use crate::change;
+use crate::change::Event;
+use crate::change::Stamp;
 use crate::closing;
 use crate::opening::Offer;
 use aim::Method;
-use journal::Record;
 use reader::Request;
 use steps::Case;
 use steps::Sight;
@@ -299,16 +301,18 @@ pub(crate) fn perform(t: SatBox, journal: &mut [u8], turn: Turn) -> SatBox
         u.sessions[place] = s;
     }
     if turn.kind != 0 {
-        let record = Record {
+        let event = Event {
             kind: turn.kind,
             cause: 0,
-            clock: t.clock,
-            session: s.number,
-            stream: s.stream,
-            frontend: u.streams[s.stream as usize - 1].frontend,
-            sequence: t.sequence,
+            session: s,
         };
-        journal::put(journal, t.held as usize, record);
+        let stamp = Stamp {
+            held: t.held,
+            clock: t.clock,
+            sequence: t.sequence,
+            frontend: u.streams[s.stream as usize - 1].frontend,
+        };
+        change::write(journal, stamp, event);
         u.held = t.held + SatBox::RECORD;
         u.sequence = journal::next_sequence(t.sequence);
     }
