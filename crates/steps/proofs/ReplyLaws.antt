@@ -16,6 +16,7 @@ use Rattle.digits.specs.Reading.{readNumber, isValue}
 use Rattle.digits.specs.declared.Zeros.the-variants.{Allowed}
 use Rattle.digits.specs.declared.Read.{Read}
 use Rattle.digits.specs.declared.Read.the-variants.{Nothing}
+use Rattle.digits.proofs.Limits.{Is-read, read-keeps, number-most}
 use Rattle.lines.specs.Lines.{isLaidOut, requestLine, headerLines}
 use Rattle.lines.specs.Headers.{valuesOf, firstValue}
 use Rattle.target.specs.Line.{isThree}
@@ -35,8 +36,7 @@ use Rattle.answer.specs.Lines.{textAt, statusLine, cseqLine}
 use Rattle.answer.specs.Answers.{linesBy, answerWith, answerText}
 use Rattle.answer.specs.declared.Kind.{Kind}
 use Rattle.answer.specs.declared.Kind.the-variants as kind
-use Rattle.stream.proofs.Edits.{read-most}
-use Rattle.answer.proofs.Fits.{Is-small, Is-read, as-read, answer-fits}
+use Rattle.answer.proofs.Fits.{Is-small, answer-fits}
 use Rattle.steps.proofs.Telling.{asked-short, head-short}
 use Rattle.steps.specs.Cases.{statusOf, isPassed, _refuses_or_ as _stops_or_}
 use Rattle.steps.specs.Steps.{lacksSession, isDead, isOutOfState, isAnothers, lacksPort, tableCase}
@@ -252,7 +252,7 @@ cseq-small s =
     let value = firstValue (valuesOf 0 (headerLines s)) in
     cond-keeps (Is-read Is-small) (isLaidOut s) _ Nothing
     (λ _. cond-keeps (Is-read Is-small) (eqb (length (valuesOf 0 (headerLines s))) 1) _ Nothing
-    (λ _. as-read Is-small (readNumber Allowed 10 4294967295 value) (λ v e. omega (arith, read-most 10 4294967295 value e))) (λ _. tt))
+    (λ _. read-keeps (λ v h. omega arith) (readNumber Allowed 10 4294967295 value) (number-most Allowed 10 4294967295 value)) (λ _. tt))
     (λ _. tt)
 
 -- a session's numbers of 32 bits, as the code's are
