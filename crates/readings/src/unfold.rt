@@ -1,32 +1,6 @@
-// Standard input, line by line: in a line `|` stands for CR LF and `^` for a hundred letters `a`.
+// Standard input, line by line: each is a request in its short form.
 use crate::asked;
 use crate::out;
-use scan::Class;
-
-// Puts what one byte stands for, and returns the place after it.
-fn unfold_byte(buf: &mut [u8], at: usize, b: u8) -> usize {
-    match b {
-        b'|' => digits::put(buf, at, b"\r\n"),
-        b'^' => {
-            let run = [b'a'; 100];
-            digits::put(buf, at, &run)
-        }
-        _ => {
-            let one = [b; 1];
-            digits::put(buf, at, &one)
-        }
-    }
-}
-
-fn unfold(buf: &mut [u8], s: &[u8]) -> usize {
-    let mut at = 0;
-    let mut i = 0;
-    while i < s.len() {
-        at = unfold_byte(buf, at, s[i]);
-        i += 1;
-    }
-    at
-}
 
 // The line in brackets; of a long one its start.
 fn name(s: &[u8]) {
@@ -42,7 +16,7 @@ fn name(s: &[u8]) {
 
 fn line(s: &[u8]) {
     let mut buf = [0u8; 4096];
-    let n = unfold(&mut buf, s);
+    let n = script::unfold(&mut buf, s);
     name(s);
     if n <= 4096 {
         asked::request(&buf[0..n]);
@@ -57,11 +31,8 @@ pub(crate) fn run() {
     let n = io::read_full(0, &mut input);
     let mut p = 0;
     while p < n {
-        let e = scan::first_from(&input, p, Class::Is(b'\n'));
-        if n <= e {
-            return;
-        }
-        line(&input[p..e]);
-        p = e + 1;
+        let s = script::line(&input[0..n], p);
+        line(s);
+        p += s.len() + 1;
     }
 }
