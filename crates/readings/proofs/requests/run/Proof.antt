@@ -1,8 +1,8 @@
--- `readings::unfold::run` meets its contract. Assumes nothing.
+-- `readings::requests::run` meets its contract. Assumes nothing.
 use borrow.Author.Needs.{needs}
 use Prim.Native.Nat.{_-_, _≤_}
-use Rattle.readings.proofs.unfold.run.Statement.{statement}
-use Rattle.readings.proofs.unfold.run.Tie as tie
+use Rattle.readings.proofs.requests.run.Statement.{statement}
+use Rattle.readings.proofs.requests.run.Tie as tie
 
 abbrev Inv-loop : tie.InvT-loop
 Inv-loop input n p₀ p = 0 ≤ p
