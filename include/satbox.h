@@ -15,8 +15,8 @@
  *   - each other pointer is valid for the length beside it; with length 0 it may be NULL.
  *   - box, request, answer, journal and buffer do not overlap.
  *   - until the call returns, no other thread and no interrupt reads or writes any of them. Calls on two boxes may run at once.
- *   - the stack has room below the caller's frame: satbox_request takes up to 35,896 bytes, satbox_tick 15,080, satbox_order 10,728,
- *     satbox_collect 7,688, satbox_make 1,560, each of the others under 200. docs/FIRMWARE.md says how that was measured.
+ *   - the stack has room below the caller's frame: satbox_request takes up to 14,344 bytes, satbox_order 7,976, satbox_tick 6,472,
+ *     satbox_collect 4,936, satbox_make 1,560, each of the others under 200. docs/FIRMWARE.md says how that was measured.
  *   - the journal's bytes stay with their box: between two calls nobody writes them, nor the box's fields. Both may be read.
  */
 #ifndef SATBOX_H

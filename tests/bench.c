@@ -181,20 +181,21 @@ static bool count_case(const struct bench *b)
     {"OPTIONS", write_options, sessions, length, CLOCK, o}, {"SETUP", write_setup, sessions, length, CLOCK, s}, \
     {"PLAY", write_play, sessions, length, CLOCK, p}, {"bad", write_bad, sessions, length, CLOCK, b}
 
+/* A bound is some 150 above what was counted: one copy more of the box, 178 instructions, is too many. */
 static const struct bench benches[] = {
     REQUESTS(0, 150, 0, 0, 0, 0),
     REQUESTS(0, 600, 0, 0, 0, 0),
     REQUESTS(0, 2048, 0, 0, 0, 0),
-    REQUESTS(8, 150, 0, 0, 0, 0),
-    REQUESTS(8, 600, 0, 0, 0, 0),
+    REQUESTS(8, 150, 8760, 13410, 11930, 10070),
+    REQUESTS(8, 600, 12720, 0, 0, 0),
     REQUESTS(8, 2048, 0, 0, 0, 0),
     REQUESTS(32, 150, 0, 0, 0, 0),
     REQUESTS(32, 600, 0, 0, 0, 0),
     REQUESTS(32, 2048, 0, 0, 0, 0),
-    {"tick", NULL, 0, 0, CLOCK, 0},
-    {"tick", NULL, 8, 0, CLOCK, 0},
-    {"tick", NULL, 32, 0, CLOCK, 0},
-    {"tick, all", NULL, 32, 0, CLOCK + PLAIN_TIMEOUT, 0}
+    {"tick", NULL, 0, 0, CLOCK, 2370},
+    {"tick", NULL, 8, 0, CLOCK, 4140},
+    {"tick", NULL, 32, 0, CLOCK, 6120},
+    {"tick, all", NULL, 32, 0, CLOCK + PLAIN_TIMEOUT, 10440}
 };
 
 int main(int count, char **words)

@@ -1,8 +1,9 @@
 /*
  * What the files of the comparison share. The archive and the plain box get the same calls, and everything a call
  * gives or may change is compared: compare.c runs, shrinks and plays sequences of calls, compare_both.c makes one
- * call on both and compares, compare_calls.c chooses calls, compare_text.c writes the requests among them,
- * compare_tables.c makes tables that no box made.
+ * call on both and compares, compare_reached.c counts what the calls reached, compare_calls.c chooses calls,
+ * compare_text.c writes the requests among them, compare_uri.c their URIs, compare_tables.c makes tables that no box
+ * made.
  */
 #ifndef COMPARE_H
 #define COMPARE_H
@@ -59,7 +60,7 @@ struct side {
     uint8_t buffer[JOURNAL_ROOM + GUARD];
 };
 
-/* How often what was reached. A status is counted at its number; methods in the order of compare_both.c. */
+/* How often what was reached. A status is counted at its number; methods in the order of compare_reached.c. */
 enum { METHODS = 5, STATUSES = 600, REFUSALS = 9 };
 
 struct reached {
@@ -80,7 +81,9 @@ struct reached {
 /* compare_both.c */
 
 extern struct side archive, plain;
-extern struct reached reached;
+
+/* The bytes held before the call that was made last. */
+extern uint32_t held_before;
 
 /* The name of a kind in a sequence's text, and how many numbers follow it. */
 extern const char *const kind_names[KINDS];
@@ -91,6 +94,10 @@ void start_both(void);
 
 /* Makes the call on both sides. True if all is the same after it; else says the difference if `tell`. */
 bool call_both(const struct call *call, bool tell);
+
+/* compare_reached.c */
+
+extern struct reached reached;
 
 /* Counts what the call that was made last reached. */
 void count_reached(const struct call *call);
@@ -127,6 +134,25 @@ enum errand { OPEN, JOIN, AGAIN, PLAY, ALIVE, LEAVE, ERRANDS };
 
 /* Writes a request of this errand for this table; `hostile` times in 16 it is damaged. */
 void write_request(struct call *call, const struct plain_box *box, enum errand errand, unsigned hostile);
+
+/* The request under way, the table it is for, and how often a part is spoilt: once in so many times. */
+extern struct call *out;
+extern const struct plain_box *table;
+enum { SPOIL = 24 };
+
+/* Put a byte, a text or a number after what is there. What does not fit is left out. */
+void put_byte(uint8_t byte);
+void put(const char *text);
+void put_number(uint64_t number);
+
+/* One of the texts of a list. */
+#define ANY(...) any((const char *const[]){__VA_ARGS__}, sizeof((const char *const[]){__VA_ARGS__}) / sizeof(char *))
+const char *any(const char *const *texts, size_t count);
+
+/* compare_uri.c */
+
+/* Puts a URI for this errand, in this session or NULL. */
+void put_uri(enum errand errand, const struct plain_session *session);
 
 /* compare_tables.c */
 

@@ -1,6 +1,6 @@
 /*
  * Makes one call on both boxes, the archive's and the plain one, and compares everything: the refusal, the counts,
- * what came back, every lent buffer to a little past its end, and every byte of the table. Counts what was reached.
+ * what came back, every lent buffer to a little past its end, and every byte of the table.
  */
 #define _POSIX_C_SOURCE 200809L
 
@@ -16,7 +16,7 @@ _Static_assert(sizeof(struct satbox) == sizeof(struct plain_box), "the same byte
 _Static_assert(sizeof(struct satbox_stream) == sizeof(struct plain_stream), "the same bytes are both");
 
 struct side archive, plain;
-struct reached reached;
+uint32_t held_before;
 
 const char *const kind_names[KINDS] = {
     "make", "request", "tick", "collect", "order", "read", "look", "write", "save", "poke", "restore"
@@ -25,9 +25,8 @@ const size_t kind_numbers[KINDS] = {2, 5, 2, 2, 1, 2, 1, 7, 0, 1, 0};
 
 /* What buffers hold before a call: no byte like its neighbours. */
 static uint8_t pattern[JOURNAL_ROOM + GUARD];
-/* The longest journal lent since the start, and the bytes held before the call. */
+/* The longest journal lent since the start. */
 static size_t journal_reach;
-static uint32_t held_before;
 
 /* A call that crashes comes back here, so that its sequence can be told like that of any difference. */
 static sigjmp_buf back;
@@ -377,80 +376,4 @@ bool call_both(const struct call *call, bool tell)
     under_way = "plain";
     call_plain(&plain, call);
     return same_sides(call, tell);
-}
-
-/* Counting. */
-
-static size_t method_of(const struct call *call)
-{
-    static const char *const names[METHODS - 1] = {"OPTIONS ", "SETUP ", "PLAY ", "TEARDOWN "};
-    size_t i = 0;
-    while (i < METHODS - 1
-           && (call->length < strlen(names[i]) || memcmp(call->bytes, names[i], strlen(names[i])) != 0))
-        i++;
-    return i;
-}
-
-static unsigned status_of(const uint8_t *answer)
-{
-    return (answer[9] - '0') * 100u + (answer[10] - '0') * 10u + (answer[11] - '0') * 1u;
-}
-
-static uint32_t sessions_open(void)
-{
-    uint32_t open = 0;
-    for (size_t i = 0; i < PLAIN_SESSIONS; i++)
-        open += plain.box.sessions[i].number != 0;
-    return open;
-}
-
-static void count_status(const struct call *call)
-{
-    unsigned status = status_of(plain.answer);
-    uint32_t open = sessions_open();
-    if (status >= STATUSES)
-        return;
-    reached.statuses[status][method_of(call)]++;
-    reached.unnumbered += status == 400 && plain.outcome.count == strlen("RTSP/1.0 400 Bad Request\r\n\r\n");
-    if (status != 503)
-        return;
-    reached.no_place += open == PLAIN_SESSIONS;
-    reached.no_room += open < PLAIN_SESSIONS
-        && plain.box.held + PLAIN_RECORD_BYTES * (open + 2) > plain.box.size;
-}
-
-/* Counts the records the call wrote. */
-static void count_records(const struct call *call)
-{
-    bool cascade = false;
-    for (uint32_t at = held_before; at < plain.box.held; at += PLAIN_RECORD_BYTES) {
-        struct plain_record record;
-        if (plain_read_record(plain.journal + at, PLAIN_RECORD_BYTES, 0, &record) != PLAIN_DONE)
-            continue;
-        reached.opened += record.kind == 1;
-        reached.joined += record.kind == 2;
-        reached.closed[record.cause] += record.kind == 3;
-        reached.number_taken += record.kind < 3 && record.session != word(call, 2);
-        cascade |= record.cause == 3;
-    }
-    reached.cascades += cascade;
-    reached.full_journals += plain.box.held > held_before && plain.box.held == plain.box.size;
-}
-
-void count_reached(const struct call *call)
-{
-    static bool poked;
-    uint32_t refusal = plain.outcome.refusal;
-    bool judges = call->kind == REQUEST || call->kind == TICK || call->kind == COLLECT || call->kind == ORDER;
-    reached.calls[call->kind][refusal < REFUSALS ? refusal : 0]++;
-    if (call->kind == REQUEST && refusal == 0)
-        count_status(call);
-    if ((call->kind == REQUEST || call->kind == TICK) && refusal == 0)
-        count_records(call);
-    reached.orders_on += plain.outcome.on;
-    if (poked && judges) {
-        reached.tables_bad += refusal == PLAIN_BAD_TABLE;
-        reached.tables_good += refusal != PLAIN_BAD_TABLE;
-    }
-    poked = call->kind == POKE || (poked && !judges && call->kind != RESTORE);
 }

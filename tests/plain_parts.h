@@ -1,6 +1,7 @@
 /*
- * What the three files of the plain box share: plain_read.c reads a request, plain_box.c judges it before the
- * table, plain_text.c writes the answer.
+ * What the files of the plain box share: plain_box.c has the calls, plain_table.c the rules of the table and its
+ * journal, plain_read.c reads a request and plain_uri.c its URI, plain_turn.c judges it before the table and
+ * carries it out, plain_text.c writes the answer.
  */
 #ifndef PLAIN_PARTS_H
 #define PLAIN_PARTS_H
@@ -78,11 +79,57 @@ struct reading {
     struct text require;        /* the value of Require */
 };
 
+/* A record's kind, and its cause. */
+enum kind { KIND_OPENED = 1, KIND_JOINED = 2, KIND_CLOSED = 3 };
+enum cause { CAUSE_NONE = 0, CAUSE_TEARDOWN = 1, CAUSE_TIME_OUT = 2, CAUSE_OWNER_CLOSED = 3 };
+
+/* plain_table.c */
+
+/* Are F and C in their ranges? */
+bool plain_limits_in_range(uint32_t frontends, uint32_t size);
+
+/* The combination rule; a missing value, code 0, offends nothing. */
+bool plain_combination_holds(const struct plain_values *values);
+
+/* Well formed, or else refusal 1. */
+bool plain_well_formed(const struct plain_box *box);
+
+uint32_t plain_count_open(const struct plain_box *box);
+
+/* The stream place that holds a frontend, or for 0 the lowest free one; PLAIN_STREAMS if there is none. */
+size_t plain_stream_place(const struct plain_box *box, uint32_t frontend);
+
+/* Appends the record of a session's opening or closing, while its stream is still live. */
+void plain_append_record(struct plain_box *box, uint8_t *journal, const struct plain_session *session,
+                         enum kind kind, enum cause cause);
+
+/* Closes a session and, if it owns its stream, every other session there and the stream. */
+void plain_close_session(struct plain_box *box, struct plain_session *session, enum cause cause,
+                         uint8_t *journal);
+
+/* Stores the clock used and closes the expired sessions. */
+void plain_sweep(struct plain_box *box, uint32_t clock, uint8_t *journal);
+
+/* plain_read.c */
+
 /* Reads a request for a box with F frontends: steps 1 to 9. 200 if they pass, else their status. */
 enum status plain_read(struct text request, uint32_t frontends, struct reading *reading);
 
+/* plain_uri.c */
+
+/* Reads the URI: steps 7 to 9. */
+enum status plain_read_uri(struct text uri, uint32_t frontends, struct reading *reading);
+
 /* Takes the first number off a list of PIDs; false if it is no PID or a comma ends the list. */
 bool plain_take_pid(struct text *list, uint16_t *pid);
+
+/* plain_turn.c */
+
+/* Steps 10 to 18. A 200 is carried out and gives the session its answer tells of, unused if there is none. */
+enum status plain_take_turn(struct plain_box *box, const struct reading *reading, uint32_t address,
+                            uint32_t draw, uint8_t *journal, struct plain_session *session);
+
+/* plain_text.c */
 
 /* Writes the answer and returns its length; the session, unused if there is none, is the one it tells of. */
 size_t plain_write_answer(uint8_t *bytes, enum status status, const struct reading *reading,

@@ -229,6 +229,9 @@ steps-status κs a x y v w = same
 pub steps-is-passed : Unique steps.is_passed.ended steps.is_passed.Reads.Post
 steps-is-passed κs a x y v w = same
 
+pub steps-number-of : Unique steps.number_of.ended steps.number_of.Reads.Post
+steps-number-of κs a x y v w = same
+
 pub steps-sight-of : Unique steps.sight_of.ended steps.sight_of.Reads.Post
 steps-sight-of κs a x y v w = same
 

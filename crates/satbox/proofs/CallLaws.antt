@@ -14,17 +14,18 @@ use Rattle.table.specs.declared.SatBox.{SatBox}
 use Rattle.table.specs.declared.Refusal.the-variants.{Table, Journal, Buffer}
 use Rattle.table.specs.declared.Outcome.the-variants.{Done, Refused}
 use Rattle.table.proofs.Rules.{formed}
-use Rattle.satbox.specs.Does.{Does, Roomy}
+use Rattle.satbox.specs.Does.{Does}
 use Rattle.satbox.specs.Closing.{swept, atClock}
 use Rattle.satbox.specs.Calls.{ticked, tickedJournal, emptied, uncollected, collected, collectedInto}
-use Rattle.satbox.proofs.Keeping.{Whole, whole-roomy, clock-whole}
+use Rattle.satbox.proofs.Keeping.{Whole, clock-whole}
+use Rattle.satbox.proofs.Kept.{whole-formed}
 
--- a well-formed table of the code has room for its closings
+-- a well-formed table of the code is whole, at any later clock too
 pub formed-whole : (t : SatBox) → wellFormed t ≡ true → length (t .sessions) ≡ 32 → length (t .streams) ≡ 8 → Whole t
 formed-whole t e a b = record { formed = formed t e; places = a; rows = b }
 
-pub clock-roomy : {t u : SatBox} (clock : ℕ) → u ≡ atClock clock t → Whole t → Roomy u
-clock-roomy {t} clock e w = rw e (whole-roomy (atClock clock t) (clock-whole clock t w))
+pub clock-formed : {t u : SatBox} (clock : ℕ) → u ≡ atClock clock t → Whole t → wellFormed u ≡ true
+clock-formed {t} clock e w = rw e (whole-formed (atClock clock t) (clock-whole clock t w))
 
 pub formed-held : (t : SatBox) → wellFormed t ≡ true → t .held ≤ t .size
 formed-held t e = omega (arith, formed t e .fits .bound)

@@ -74,7 +74,7 @@ pub cascade-sessions : (id : ℕ) (t : SatBox) → length (t .sessions) ≡ 32 �
 unfolding cascade
 cascade-sessions id t h = upto-map (closeOn id) (λ v. v .sessions) (clear id) noSession (λ i v. closeOn-place id i v (case _)) t 32 h
 
-closeOn-streams : (id i : ℕ) (t : SatBox) → closeOn id i t .satbox .streams ≡ t .streams
+pub closeOn-streams : (id i : ℕ) (t : SatBox) → closeOn id i t .satbox .streams ≡ t .streams
 unfolding closeOn closeOne noting reseated
 closeOn-streams id i t = cond-keeps (λ d. d .satbox .streams ≡ t .streams) (isOn id (sessionAt t i)) (closeOne 3 i t) (nothing t) (λ e. refl) (λ e. refl)
 

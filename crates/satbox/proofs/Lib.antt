@@ -9,9 +9,12 @@ pub mod RecordLaws
 pub mod Kept
 pub mod Leaving
 pub mod Recorded
+pub mod Dues
 pub mod Passing
 pub mod ServingLaws
 pub mod Branching
 pub mod Ends
 pub mod Turns
+pub mod Looking
+pub mod Performing
 pub mod RequestLaws

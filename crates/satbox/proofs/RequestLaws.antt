@@ -33,10 +33,10 @@ use Rattle.steps.proofs.ReplyLaws.{Follows, follows-passed, follows-refused, is
 use Rattle.satbox.specs.Does.{Does}
 use Rattle.satbox.specs.Closing.{swept, sweeping, atClock}
 use Rattle.satbox.specs.Serving.{Serving, merging, merges, isClash, isTooMany, opens, canSeat, changeCase, caseOf, denied, grant, served}
-use Rattle.satbox.specs.Branches.{Serves}
+use Rattle.satbox.specs.Branches.{performed, TurnIs}
 use Rattle.satbox.specs.Requests.{clientOf, answered, requested, answerOf, replied, repliedInto, repliedJournal, unanswered, Responds}
 use Rattle.satbox.specs.declared.opening.Client.{Client}
-use Rattle.satbox.specs.declared.serving.Served.{Served}
+use Rattle.satbox.specs.declared.serving.Turn.{Turn}
 use Rattle.satbox.specs.declared.Replied.{Replied}
 use Rattle.satbox.proofs.DoesLaws.{does-then}
 use Rattle.satbox.proofs.Closings.{swept-fine}
@@ -93,8 +93,8 @@ module _ (s : List ℕ) (address draw : ℕ) (t : SatBox) (r : Request) (i : Req
       (λ e. follows-passed (i .refusal ∙ passed-is _ e) (served-unread t a (listsOf s) client))
       (λ n. follows-refused (ap Reading (sym (i .refusal))) (ap reading.isPassed (i .refusal) ∙ n))
 
-  module _ {j k b d : List ℕ} {v : Served} {a : Answer} {n : ℕ}
-      (p : Serves t j (answered s address draw t) v k) (m : Numbers (v .session)) (h : 4096 ≤ length b)
+  module _ {b d : List ℕ} {v : Turn} {a : Answer} {n : ℕ}
+      (p : TurnIs t (answered s address draw t) v) (m : Numbers (v .session)) (h : 4096 ≤ length b)
       (e : a ≡ replyTo (v .case) r (v .session)) (w : Wrote b 0 (answerText s a) d n) where
     answer-told : answerText s a ≡ answerTo s address draw t
     answer-told =
@@ -113,10 +113,10 @@ module _ (s : List ℕ) (address draw : ℕ) (t : SatBox) (r : Request) (i : Req
     pub answer-count : n < 4294967296
     answer-count = omega (arith, answer-front .1, answer-short)
 
-    pub answer-done : Responds s address draw t b j (record { satbox = v .satbox; outcome = Done; count = n }) d k
-    answer-done =
+    pub answer-done : {u : SatBox} {j k : List ℕ} → Does t j (performed v t) u k → Responds s address draw t b j (record { satbox = u; outcome = Done; count = n }) d k
+    answer-done q =
         let c = answer-front .1 in
-        record { does = p .does; outcome = refl; count = c; buffer = rw c (answer-front .0) }
+        record { does = rw (← p .did) q; outcome = refl; count = c; buffer = rw c (answer-front .0) }
 
 -- THE CALL
 replied-as : {x : Replied} {t : SatBox} {n : ℕ} → x .satbox ≡ t → x .outcome ≡ Done → x .count ≡ n → x ≡ record { satbox = t; outcome = Done; count = n }

@@ -7,12 +7,27 @@ use native.Mathlib.Omega.{arith}
 use lib.ListN.{length, getD, set, take, drop, length-map, drop-of-length-le}
 use lib.Seq.{set-at, getD-at, take-suc, drop-cons, length-take-le, take-all}
 use Rattle.table.specs.declared.SatBox.{SatBox}
-use Rattle.satbox.specs.Did.{Did, nothing, then, upto}
+use Rattle.satbox.specs.Did.{Did, did, nothing, then, upto}
 
 pub upto-keeps : (f : ℕ → SatBox → Did) (P : SatBox → Type 0) (m : ℕ) → ((i : ℕ) (t : SatBox) → i < m → P t → P (f i t .satbox)) → (t : SatBox) → P t → (n : ℕ) → n ≤ m → P (upto f n t .satbox)
 unfolding upto
 upto-keeps f P m k t p zero h = p
 upto-keeps f P m k t p (suc n) h = k n (upto f n t .satbox) (omega arith) (upto-keeps f P m k t p n (omega arith))
+
+-- a run of steps that do nothing, and one whose steps are those of another
+pub upto-idle : (f : ℕ → SatBox → Did) (t : SatBox) (n : ℕ) → ((i : ℕ) → i < n → f i t ≡ nothing t) → upto f n t ≡ nothing t
+unfolding upto
+upto-idle f t zero h = refl
+upto-idle f t (suc n) h =
+    ap (λ d. then d (f n)) (upto-idle f t n (λ i l. h i (omega arith))) ∙ ap (λ d. did (d .satbox) (d .records)) (h n (omega arith))
+
+pub upto-same : (f g : ℕ → SatBox → Did) (P : SatBox → Type 0) (m : ℕ) → ((i : ℕ) (t : SatBox) → i < m → P t → P (f i t .satbox)) → ((i : ℕ) (t : SatBox) → i < m → P t → f i t ≡ g i t) → (t : SatBox) → P t → (n : ℕ) → n ≤ m → upto f n t ≡ upto g n t
+unfolding upto
+upto-same f g P m k e t p zero h = refl
+upto-same f g P m k e t p (suc n) h =
+    let d = upto f n t in
+    ap (λ x. did (x .satbox) (d .records ++ x .records)) (e n (d .satbox) (omega arith) (upto-keeps f P m k t p n (omega arith)))
+    ∙ ap (λ x. then x (g n)) (upto-same f g P m k e t p n (omega arith))
 
 -- a run whose step at i changes only the element at i of a list, by g, maps g over the list
 module _ {A : Type 0} (f : ℕ → SatBox → Did) (part : SatBox → List A) (g : A → A) (d : A) (local : (i : ℕ) (t : SatBox) → part (f i t .satbox) ≡ set (part t) i (g (getD (part t) i d))) (t : SatBox) where

@@ -1,16 +1,18 @@
-// What a request does once it was read: steps 11 to 18, and the change of the table where none of them refuses.
+// What a request comes to once it was read: steps 11 to 18, and the change where none of them refuses. A table that is handed on is
+// copied: what is needed of it is looked up before, and it is changed at the end, in one place (`perform`).
 ghost use mathlib.Core.Path.{_≡_};
-ghost use Prim.Native.Nat.{_≤_};
+ghost use mathlib.Core.Bool.{true};
 ghost use Rattle.stream.specs.Merging.{mergeOf};
-ghost use Rattle.steps.specs.Asked.{askedBy, listBy, listsBy, Told};
-ghost use Rattle.satbox.specs.Serving.{feedOf, replaced, refreshed, atPort, playing, after, served};
-ghost use Rattle.satbox.specs.Branches.{deniedAs, grantedAs, openedAs, Serves, SettlesAll, Servable, Opens, Joins, Retunes, Keeps, Leaves, SetsUp, Readable};
-ghost use Rattle.satbox.specs.Requests.{clientOf, answered};
+ghost use Rattle.table.specs.Formed.{wellFormed};
+ghost use Rattle.steps.specs.Asked.{listBy, Told};
+ghost use Rattle.satbox.specs.Does.{Does};
+ghost use Rattle.satbox.specs.Serving.{refreshed, atPort, playing, after};
+ghost use Rattle.satbox.specs.Branches.{deniedAs, reseatedAs, seatedAs, leftAs, firstCase, opensNow, Tells, OpensAs, RetunesAs, SetsUpAs, TurnsAs, Performable, performed};
 use crate::change;
+use crate::change::Event;
+use crate::change::Stamp;
 use crate::closing;
-use crate::opening;
-use crate::opening::Client;
-use crate::opening::Opened;
+use crate::opening::Offer;
 use aim::Method;
 use reader::Request;
 use steps::Case;
@@ -21,29 +23,43 @@ use stream::Stream;
 use table::SatBox;
 use table::Session;
 
-// What a request comes to: the table, why it was refused, and the session that its answer is about; none where it was refused.
-pub(crate) struct Served {
-    pub(crate) satbox: SatBox,
+// What a request comes to: why it was refused, and the session that its answer is about, none where it was refused. And the change: the
+// stream of an ID, none at 0; the session that then has a place, none at 32; and the kind of the record, 0 where none is written.
+pub(crate) struct Turn {
+    pub(crate) stream: Stream,
+    pub(crate) seat: Session,
     pub(crate) session: Session,
+    pub(crate) place: usize,
+    pub(crate) id: u32,
+    pub(crate) kind: u8,
     pub(crate) case: Case,
 }
 
-fn deny(t: SatBox, case: Case) -> Served
-    ensures { λ r. ⌜ r ≡ deniedAs t case ⌝ }
+fn deny(case: Case) -> Turn
+    ensures { λ r. ⌜ r ≡ deniedAs case ⌝ }
 {
-    Served {
-        satbox: t,
+    Turn {
+        stream: Stream::NONE,
+        seat: Session::NONE,
         session: Session::NONE,
+        place: SatBox::SESSIONS,
+        id: 0,
+        kind: 0,
         case,
     }
 }
 
-fn grant(t: SatBox, session: Session) -> Served
-    ensures { λ r. ⌜ r ≡ grantedAs t session ⌝ }
+// A session that is changed in its place; the answer is about `session`.
+fn reseat(place: usize, seat: Session, session: Session) -> Turn
+    ensures { λ r. ⌜ r ≡ reseatedAs place seat session ⌝ }
 {
-    Served {
-        satbox: t,
+    Turn {
+        stream: Stream::NONE,
+        seat,
         session,
+        place,
+        id: 0,
+        kind: 0,
         case: Case::Passed,
     }
 }
@@ -71,75 +87,38 @@ fn merge(m: Stream, s: &[u8], r: Request) -> Change
     stream::merge(m, codes, &query[a..b], &query[c..d], &query[e..f])
 }
 
-// The frontend that a new stream takes.
-fn feed_of(t: SatBox, fe: u32) -> u8
-    requires { ⌜ (t .frontends ≤ 8) × (fe ≤ 8) ⌝ }
-    ensures { λ r. ⌜ r ≡ feedOf t fe ⌝ }
+// A session that opens, on a new stream of an ID or, at ID 0, on one that is live.
+fn seat(o: Offer, kind: u8, id: u32, m: Stream) -> Turn
+    ensures { λ r. ⌜ r ≡ seatedAs o kind id m ⌝ }
 {
-    if fe == 0 {
-        table::lowest_frontend(t) as u8
-    } else {
-        fe as u8
+    if !o.whole {
+        return deny(Case::Full);
     }
-}
-
-// What an opening comes to.
-fn opened(o: Opened) -> Served
-    ensures { λ r. ⌜ r ≡ openedAs o ⌝ }
-{
-    let s = o.session;
-    if s.number == 0 {
-        return deny(o.satbox, Case::Full);
+    let s = o.seat;
+    Turn {
+        stream: m,
+        seat: s,
+        session: s,
+        place: o.place,
+        id,
+        kind,
+        case: Case::Passed,
     }
-    grant(o.satbox, s)
 }
 
 // A SETUP for a new stream.
-fn open_stream(
-    t: SatBox,
-    s: &[u8],
-    r: Request,
-    v: Sight,
-    client: Client,
-    journal: &mut [u8],
-) -> Served
-    requires { ⌜ Opens t (now s) r v ⌝ }
-    ensures { λ x. ⌜ Serves t (now (journal .entry)) (served t (askedBy r) (listsBy (now (s .entry)) r) client) x (now (journal .exit)) ⌝ }
+fn open_stream(s: &[u8], r: Request, o: Offer) -> Turn
+    requires { ⌜ Told (now s) r ⌝ }
+    ensures { λ x. ⌜ OpensAs (now (s .entry)) r o x ⌝ }
 {
-    let change = merge(Stream::blank(feed_of(t, v.fe)), s, r);
+    let change = merge(Stream::blank(o.feed), s, r);
     let outcome = change.outcome;
+    let session = o.seat;
     match outcome {
-        Outcome::Combination => deny(t, Case::Combination),
-        Outcome::TooMany => deny(t, Case::TooManyPids),
-        Outcome::Merged => opened(opening::open(t, journal, change.stream, client)),
+        Outcome::Combination => deny(Case::Combination),
+        Outcome::TooMany => deny(Case::TooManyPids),
+        Outcome::Merged => seat(o, 1, session.stream as u32, change.stream),
     }
-}
-
-// A SETUP that joins a live stream.
-fn join_stream(
-    t: SatBox,
-    s: &[u8],
-    r: Request,
-    v: Sight,
-    client: Client,
-    journal: &mut [u8],
-) -> Served
-    requires { ⌜ Joins t (now s) r v ⌝ }
-    ensures { λ x. ⌜ Serves t (now (journal .entry)) (served t (askedBy r) (listsBy (now (s .entry)) r) client) x (now (journal .exit)) ⌝ }
-{
-    opened(opening::join(t, journal, v.stream as u8, client))
-}
-
-// Sets a session in its place.
-fn replace(t: SatBox, place: usize, s: Session) -> SatBox
-    ensures { λ r. ⌜ r ≡ replaced place s t ⌝ }
-{
-    if SatBox::SESSIONS <= place {
-        return t;
-    }
-    let mut u = t;
-    u.sessions[place] = s;
-    u
 }
 
 fn at_port(s: Session, port: u32) -> Session
@@ -173,25 +152,32 @@ fn after(v: Sight) -> Session
     }
 }
 
-// A SETUP or a PLAY of an open session: its owner's query is merged.
-fn retune(t: SatBox, s: &[u8], r: Request, v: Sight) -> Served
-    requires { ⌜ Retunes t (now s) r v ⌝ }
-    ensures { λ x. ⌜ SettlesAll t (askedBy r) (listsBy (now (s .entry)) r) x ⌝ }
+// A SETUP or a PLAY of an open session: its owner's query is merged into its stream.
+fn retune(m: Stream, s: &[u8], r: Request, v: Sight) -> Turn
+    requires { ⌜ Told (now s) r ⌝ }
+    ensures { λ x. ⌜ RetunesAs (now (s .entry)) r v m x ⌝ }
 {
     let session = v.session;
     let next = after(v);
     if !table::owns(session, v.stream) {
-        return grant(replace(t, v.place, next), next);
+        return reseat(v.place, next, next);
     }
-    let id = v.stream as usize;
-    let change = merge(t.streams[id - 1], s, r);
+    let change = merge(m, s, r);
     let outcome = change.outcome;
     match outcome {
-        Outcome::Combination => deny(t, Case::Combination),
-        Outcome::TooMany => deny(t, Case::TooManyPids),
+        Outcome::Combination => deny(Case::Combination),
+        Outcome::TooMany => deny(Case::TooManyPids),
         Outcome::Merged => {
-            let u = change::set_stream(t, v.stream as u8, change.stream);
-            grant(replace(u, v.place, next), next)
+            let stream = change.stream;
+            Turn {
+                stream,
+                seat: next,
+                session: next,
+                place: v.place,
+                id: v.stream,
+                kind: 0,
+                case: Case::Passed,
+            }
         }
     }
 }
@@ -205,80 +191,130 @@ fn refresh(s: Session, clock: u32) -> Session
 }
 
 // An OPTIONS: a session that it names has its last time set.
-fn keep(t: SatBox, s: &[u8], r: Request, v: Sight) -> Served
-    requires { ⌜ Keeps t (now s) r v ⌝ }
-    ensures { λ x. ⌜ SettlesAll t (askedBy r) (listsBy (now (s .entry)) r) x ⌝ }
+fn keep(v: Sight, clock: u32) -> Turn
+    ensures { λ r. ⌜ r ≡ reseatedAs (v .place) (refreshed clock (v .session)) (v .session) ⌝ }
 {
     let session = v.session;
-    if SatBox::SESSIONS <= v.place {
-        return grant(t, session);
-    }
-    grant(replace(t, v.place, refresh(session, t.clock)), session)
+    reseat(v.place, refresh(session, clock), session)
 }
 
 // A TEARDOWN.
-fn leave(t: SatBox, s: &[u8], r: Request, v: Sight, client: Client, journal: &mut [u8]) -> Served
-    requires { ⌜ Leaves t (now s) r v ⌝ }
-    ensures { λ x. ⌜ Serves t (now (journal .entry)) (served t (askedBy r) (listsBy (now (s .entry)) r) client) x (now (journal .exit)) ⌝ }
+fn leave(v: Sight) -> Turn
+    ensures { λ r. ⌜ r ≡ leftAs v ⌝ }
 {
     let session = v.session;
-    grant(closing::close(t, journal, 1, v.place), session)
+    Turn {
+        stream: Stream::NONE,
+        seat: Session::NONE,
+        session,
+        place: v.place,
+        id: 0,
+        kind: 3,
+        case: Case::Passed,
+    }
 }
 
 // A SETUP: in a session, for a new stream, or on a live one.
-fn set_up(t: SatBox, s: &[u8], r: Request, v: Sight, client: Client, journal: &mut [u8]) -> Served
-    requires { ⌜ SetsUp t (now s) r v ⌝ }
-    ensures { λ x. ⌜ Serves t (now (journal .entry)) (served t (askedBy r) (listsBy (now (s .entry)) r) client) x (now (journal .exit)) ⌝ }
+fn set_up(m: Stream, s: &[u8], r: Request, v: Sight, o: Offer) -> Turn
+    requires { ⌜ Told (now s) r ⌝ }
+    ensures { λ x. ⌜ SetsUpAs (now (s .entry)) r v m o x ⌝ }
 {
     if v.place < SatBox::SESSIONS {
-        return retune(t, s, r, v);
+        return retune(m, s, r, v);
     }
     if v.stream == 0 {
-        return open_stream(t, s, r, v, client, journal);
+        return open_stream(s, r, o);
     }
-    join_stream(t, s, r, v, client, journal)
+    seat(o, 2, 0, Stream::NONE)
 }
 
-// Serves a request that was read.
-fn serve(t: SatBox, s: &[u8], r: Request, address: u32, draw: u32, journal: &mut [u8]) -> Served
-    requires { ⌜ Servable t (now s) r ⌝ }
-    ensures { λ x. ⌜ Serves t (now (journal .entry)) (served t (askedBy r) (listsBy (now (s .entry)) r) (clientOf address draw (askedBy r))) x (now (journal .exit)) ⌝ }
+// The first of steps 1 to 15 that refuses, of which those to 10 were read.
+pub(crate) fn case_of(refusal: aim::Refusal, v: Sight) -> Case
+    ensures { λ c. ⌜ c ≡ firstCase refusal v ⌝ }
 {
-    let v = steps::sight_of(t, r);
-    let case = steps::case_of(v);
-    if !steps::is_passed(case) {
-        return deny(t, case);
+    if !aim::is_passed(refusal) {
+        return Case::Reading(refusal);
     }
-    let client = Client {
-        address,
-        port: v.port,
-        draw,
-    };
+    steps::case_of(v)
+}
+
+// Whether a request that went through those asks for a session to be opened.
+pub(crate) fn opens(case: Case, v: Sight) -> bool
+    ensures { λ b. ⌜ b ≡ opensNow case v ⌝ }
+{
+    if !steps::is_passed(case) {
+        return false;
+    }
     let method = v.method;
     match method {
-        Method::Options => keep(t, s, r, v),
-        Method::Setup => set_up(t, s, r, v, client, journal),
-        Method::Play => retune(t, s, r, v),
-        Method::Teardown => leave(t, s, r, v, client, journal),
-        Method::Other => grant(t, Session::NONE),
+        Method::Options => false,
+        Method::Setup => !(v.place < SatBox::SESSIONS),
+        Method::Play => false,
+        Method::Teardown => false,
+        Method::Other => false,
     }
 }
 
-// Serves a request, or refuses it for what was read of it.
-pub(crate) fn serve_read(
-    t: SatBox,
+// What a request comes to: m is the stream that it names, o what an opening would take.
+pub(crate) fn turn_of(
     s: &[u8],
     r: Request,
-    address: u32,
-    draw: u32,
-    journal: &mut [u8],
-) -> Served
-    requires { ⌜ Readable t (now s) r ⌝ }
-    ensures { λ x. ⌜ Serves t (now (journal .entry)) (answered (now (s .entry)) address draw t) x (now (journal .exit)) ⌝ }
+    v: Sight,
+    m: Stream,
+    o: Offer,
+    case: Case,
+    clock: u32,
+) -> Turn
+    requires { ⌜ Tells (now s) r case ⌝ }
+    ensures { λ x. ⌜ TurnsAs (now (s .entry)) r v m o case clock x ⌝ }
 {
-    let refusal = r.refusal;
-    if !aim::is_passed(refusal) {
-        return deny(t, Case::Reading(refusal));
+    if !steps::is_passed(case) {
+        return deny(case);
     }
-    serve(t, s, r, address, draw, journal)
+    let method = v.method;
+    match method {
+        Method::Options => keep(v, clock),
+        Method::Setup => set_up(m, s, r, v, o),
+        Method::Play => retune(m, s, r, v),
+        Method::Teardown => leave(v),
+        Method::Other => deny(Case::Passed),
+    }
+}
+
+// Changes the table as a turn says, and writes its record.
+pub(crate) fn perform(t: SatBox, journal: &mut [u8], turn: Turn) -> SatBox
+    requires { ⌜ (wellFormed t ≡ true) × Performable t turn ⌝ }
+    ensures { λ r. ⌜ Does t (now (journal .entry)) (performed turn t) r (now (journal .exit)) ⌝ }
+{
+    let place = turn.place;
+    if turn.kind == 3 {
+        return closing::close(t, journal, 1, place);
+    }
+    let mut u = t;
+    let id = turn.id as usize;
+    let m = turn.stream;
+    if id != 0 {
+        u.streams[id - 1] = m;
+    }
+    let s = turn.seat;
+    if place < SatBox::SESSIONS {
+        u.sessions[place] = s;
+    }
+    if turn.kind != 0 {
+        let event = Event {
+            kind: turn.kind,
+            cause: 0,
+            session: s,
+        };
+        let stamp = Stamp {
+            held: t.held,
+            clock: t.clock,
+            sequence: t.sequence,
+            frontend: u.streams[s.stream as usize - 1].frontend,
+        };
+        change::write(journal, stamp, event);
+        u.held = t.held + SatBox::RECORD;
+        u.sequence = journal::next_sequence(t.sequence);
+    }
+    u
 }

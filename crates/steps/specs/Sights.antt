@@ -9,6 +9,7 @@ use Rattle.reader.specs.declared.fields.Transport.{Transport}
 use Rattle.reader.specs.declared.fields.Transport.the-variants.{Other, Port}
 use Rattle.table.specs.Table.{sessionAt, streamOf}
 use Rattle.table.specs.Finding.{placeOf}
+use Rattle.table.specs.declared.Session.{Session}
 use Rattle.table.specs.declared.SatBox.{SatBox}
 use Rattle.steps.specs.Asked.{Asked}
 use Rattle.steps.specs.declared.Sight.{Sight}
@@ -17,6 +18,12 @@ abbrev pub isAbsent : Sent → Bool
 isAbsent Absent = true
 isAbsent Malformed = false
 isAbsent (Named n) = false
+
+-- the number that a Session header names; 0 where it names none
+abbrev pub numberOf : Sent → ℕ
+numberOf Absent = 0
+numberOf Malformed = 0
+numberOf (Named n) = n
 
 -- the place of the open session that has a number; 32 where none has it, and none has 0
 abbrev pub placeOpen : ℕ → SatBox → ℕ
@@ -33,9 +40,9 @@ abbrev pub portOf : Transport → ℕ
 portOf Other = 0
 portOf (Port port) = port
 
--- fe stands at place 1 of document 01's table
-unfoldable pub sightOf : SatBox → Asked → Sight
-sightOf t a =
+-- a request beside what was looked up for it: a place, the session there, and a frontend; fe stands at place 1 of document 01's table
+abbrev pub sighted : Asked → ℕ → Session → ℕ → Sight
+sighted a place session frontend =
     record {
       method = a .method;
       absent = isAbsent (a .session);
@@ -43,7 +50,11 @@ sightOf t a =
       fe = getD (a .codes) 1 0;
       query = a .query;
       port = portOf (a .transport);
-      place = placeNamed (a .session) t;
-      session = sessionAt t (placeNamed (a .session) t);
-      frontend = streamOf t (a .stream) .frontend;
+      place = place;
+      session = session;
+      frontend = frontend;
     }
+
+-- and with what a table has: the session that is named, and the frontend that the stream holds
+unfoldable pub sightOf : SatBox → Asked → Sight
+sightOf t a = sighted a (placeNamed (a .session) t) (sessionAt t (placeNamed (a .session) t)) (streamOf t (a .stream) .frontend)

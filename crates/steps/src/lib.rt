@@ -10,14 +10,12 @@ pub use cases::status;
 pub use cases::step;
 pub use replies::answer_to;
 ghost use mathlib.Core.Path.{_≡_};
-ghost use Rattle.table.specs.Table.{sessionAt};
 ghost use Rattle.steps.specs.Asked.{askedBy};
-ghost use Rattle.steps.specs.Sights.{isAbsent, placeOpen, placeNamed, portOf, sightOf};
+ghost use Rattle.steps.specs.Sights.{isAbsent, numberOf, portOf, sighted};
 ghost use Rattle.steps.specs.Steps.{tableCase};
 use aim::Method;
 use reader::Request;
 use reader::Transport;
-use table::SatBox;
 use table::Session;
 
 // What steps 11 to 15 look at: of the request its method, whether it sends a Session header, the stream that it names and the fe that it
@@ -45,33 +43,14 @@ fn is_absent(sent: reader::Session) -> bool
     }
 }
 
-fn place_of(t: SatBox, n: u32) -> usize
-    ensures { λ r. ⌜ r ≡ placeOpen n t ⌝ }
-{
-    if n == 0 {
-        return SatBox::SESSIONS;
-    }
-    table::place_of(t, n)
-}
-
-// The place of the open session that a Session header names; 32 where it names none.
-fn place_named(t: SatBox, sent: reader::Session) -> usize
-    ensures { λ r. ⌜ r ≡ placeNamed sent t ⌝ }
+// The number that a Session header names; 0 where it names none, and no open session has it.
+pub fn number_of(sent: reader::Session) -> u32
+    ensures { λ r. ⌜ r ≡ numberOf sent ⌝ }
 {
     match sent {
-        reader::Session::Absent => SatBox::SESSIONS,
-        reader::Session::Malformed => SatBox::SESSIONS,
-        reader::Session::Named(n) => place_of(t, n),
-    }
-}
-
-fn session_at(t: SatBox, place: usize) -> Session
-    ensures { λ r. ⌜ r ≡ sessionAt t place ⌝ }
-{
-    if place < SatBox::SESSIONS {
-        t.sessions[place]
-    } else {
-        Session::NONE
+        reader::Session::Absent => 0,
+        reader::Session::Malformed => 0,
+        reader::Session::Named(n) => n,
     }
 }
 
@@ -84,17 +63,15 @@ fn port_of(transport: Transport) -> u32
     }
 }
 
-// Gathers what the steps look at.
-pub fn sight_of(t: SatBox, r: Request) -> Sight
-    ensures { λ v. ⌜ v ≡ sightOf t (askedBy r) ⌝ }
+// Gathers what the steps look at: of the table the place of the session that is named, that session, and the frontend of the stream.
+pub fn sight_of(r: Request, place: usize, session: Session, frontend: u8) -> Sight
+    ensures { λ v. ⌜ v ≡ sighted (askedBy r) place session frontend ⌝ }
 {
     let sent = r.session;
-    let named = r.session;
     let transport = r.transport;
     let method = r.method;
     let query = r.query;
     let codes = r.codes;
-    let place = place_named(t, named);
     Sight {
         method,
         absent: is_absent(sent),
@@ -103,8 +80,8 @@ pub fn sight_of(t: SatBox, r: Request) -> Sight
         query: query.start < query.end,
         port: port_of(transport),
         place,
-        session: session_at(t, place),
-        frontend: table::frontend_of(t, r.stream),
+        session,
+        frontend,
     }
 }
 
