@@ -2,7 +2,7 @@
 use mathlib.Core.Path.{_≡_, refl, ap, _∙_, sym}
 use mathlib.Core.Bool.{Bool, true, false, not, _&&_, _||_}
 use mathlib.Core.List.{List, []}
-use Prim.Native.Nat.{ℕ, _+_, _-_, _≤_, _<_}
+use Prim.Native.Nat.{ℕ, _+_, _≤_, _<_}
 use native.Mathlib.Decide.{ℕ-discrete}
 use native.Mathlib.Omega.{arith}
 use lib.Dec.{ltb, eqb}
@@ -11,10 +11,9 @@ use borrow.Author.Tests.{lt-ltb, le-ltb}
 use Rattle.scan.specs.Lists.{part, Holds}
 use Rattle.scan.specs.declared.Span.{Span}
 use Rattle.scan.proofs.Bools.{never, by-cases}
-use Rattle.scan.proofs.Parts.{holds-length}
+use Rattle.scan.proofs.Parts.{all-same, holds-nothing, holds-length}
 use Rattle.target.specs.Uri.{isUri, hasQuery, queryOf, UriIs}
 use Rattle.target.specs.declared.Uri.{Uri}
-use Rattle.aim.proofs.QueryLaws.{all-same}
 use Rattle.aim.specs.Query.{isQuery, areWithin, textOf, nowhere, QueryIs}
 use Rattle.aim.specs.Refusals.{_refuses_or_, isPassed}
 use Rattle.aim.specs.Aim.{takesNoQuery, isNumber, hasStream, lacksStream, judged, uriRefusal, Reached, refusedAim, verdictOf, isSpan, AimIs}
@@ -68,9 +67,6 @@ module _ (frontends : ℕ) (method : Method) (u : List ℕ) {t : Uri} {b : Bool}
   unfolding uriRefusal
   chain = rw (le-ltb 1024 (length u) (r .short), sound, asks)
 
-nothing-here : (q : List ℕ) → Holds q [] 0 0
-nothing-here q = record { order = omega arith; within = omega arith; is = refl }
-
 -- A URI WITHOUT A QUERY
 module _ (frontends : ℕ) (method : Method) (u : List ℕ) {t : Uri} (r : Reached u t false) {l s : Bool} (e : s ≡ not (eqb (t .stream) 0)) (q : l ≡ lacksStream method s false) where
   lacks-is : l ≡ lacksStream method (hasStream u) false
@@ -86,9 +82,9 @@ module _ (frontends : ℕ) (method : Method) (u : List ℕ) {t : Uri} (r : Reach
         refusal = sym (chain frontends method u r ∙ rw (sym lacks-is ∙ n));
         stream = λ _. r .is .stream (r .sound);
         host = λ _. r .is .host (r .sound);
-        query = λ _. rw (asks frontends method u r) (nothing-here u);
+        query = λ _. rw (asks frontends method u r) (holds-nothing u);
         codes = λ _ a. rw (asks frontends method u r, all-same {A = ℕ} 13 a 0);
-        spans = λ _ a. rw (asks frontends method u r, all-same 13 a nowhere) (nothing-here []);
+        spans = λ _ a. rw (asks frontends method u r, all-same 13 a nowhere) (holds-nothing []);
         refused = λ x. never refl x;
       }
 

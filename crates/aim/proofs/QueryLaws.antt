@@ -2,7 +2,7 @@
 use mathlib.Core.Path.{_≡_, refl, ap, _∙_, sym}
 use mathlib.Core.Bool.{Bool, true, false, not, cond, _&&_, and-false}
 use mathlib.Core.List.{List, [], _∷_}
-use Prim.Native.Nat.{ℕ, zero, suc, _+_, _-_, _≤_, _<_}
+use Prim.Native.Nat.{ℕ, _+_, _-_, _≤_, _<_}
 use native.Mathlib.Decide.{ℕ-discrete}
 use native.Mathlib.Omega.{arith}
 use lib.Dec.{ltb, eqb}
@@ -14,7 +14,7 @@ use Rattle.scan.specs.Cut.{is, cutFrom}
 use Rattle.scan.specs.declared.Span.{Span}
 use Rattle.scan.proofs.Bools.{never, by-test, by-cases}
 use Rattle.scan.proofs.Cuts.{cut-start, cut-turn, cut-end}
-use Rattle.scan.proofs.Parts.{part-length, part-part, part-rest}
+use Rattle.scan.proofs.Parts.{part-length, part-part, part-rest, all-same, holds-nothing}
 use Rattle.digits.specs.Reading.{isValue}
 use Rattle.digits.specs.declared.Read.{Read}
 use Rattle.tuning.specs.Attributes.{attributeOf}
@@ -65,14 +65,6 @@ pub record Asking (frontends : ℕ) (q : List ℕ) (p : ℕ) (codes : List ℕ) 
   pub blank : (a : ℕ) → isAmong a taken ≡ false → getD codes a 0 ≡ 0
   pub held : (a : ℕ) → Spanned q (textOf a q) (textAmong a (cutFrom 38 p q)) (isAmong a taken) (getD spans a nowhere)
 
-pub all-same : {A : Type 0} (n k : ℕ) (x : A) → getD (replicate n x) k x ≡ x
-all-same zero k x = refl
-all-same (suc n) zero x = refl
-all-same (suc n) (suc k) x = all-same n k x
-
-nothing-held : (q : List ℕ) → Holds q [] 0 0
-nothing-held q = record { order = omega arith; within = omega arith; is = refl }
-
 pub asking-start : (frontends : ℕ) (q : List ℕ) → Asking frontends q 0 (replicate 13 0) (replicate 13 nowhere) true
 unfolding isQuery areWithin codeOf textOf
 asking-start frontends q =
@@ -86,7 +78,7 @@ asking-start frontends q =
       values = ap (all (isWithin frontends)) (sym (cut-start 38 q));
       coded = λ a. ap (codeAmong frontends a) (cut-start 38 q);
       blank = λ a _. all-same 13 a 0;
-      held = λ a. rw (all-same 13 a nowhere) (record { there = λ y. never y refl; later = λ _. (ap (textAmong a) (cut-start 38 q), nothing-held q) });
+      held = λ a. rw (all-same 13 a nowhere) (record { there = λ y. never y refl; later = λ _. (ap (textAmong a) (cut-start 38 q), holds-nothing q) });
     }
 
 pub query-broken : {frontends : ℕ} {q : List ℕ} {r : Query} → isQuery q ≡ false → r ≡ brokenQuery → QueryIs frontends q r

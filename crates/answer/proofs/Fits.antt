@@ -1,22 +1,20 @@
 -- Every answer fits its buffer: "the answer buffer is shorter than 4,096" is the only refusal for its length. Assumes nothing.
-use mathlib.Core.Path.{_≡_, refl}
-use mathlib.Core.Bool.{Bool, true, false, _&&_}
+use mathlib.Core.Path.{_≡_}
+use mathlib.Core.Bool.{Bool, true, false}
 use mathlib.Core.List.{List, []}
 use Prim.Native.Nat.{ℕ, _+_, _%_, _≤_, _<_}
 use Prim.Native.String.{String}
 use native.Mathlib.Omega.{arith}
-use lib.Dec.{eqb, leb}
+use lib.Dec.{eqb}
 use lib.ListN.{length, length-append}
-use borrow.Author.Tests.{leb-true}
 use Rattle.scan.specs.Text.{text, _&_}
-use Rattle.scan.specs.declared.Span.{Span}
-use Rattle.scan.proofs.Bools.{and-both, cond-keeps}
-use Rattle.scan.proofs.Parts.{part-length}
+use Rattle.scan.proofs.Bools.{cond-keeps}
 use Rattle.digits.specs.Writing.{decimal, dotted}
 use Rattle.digits.specs.declared.Read.{Read}
 use Rattle.digits.specs.declared.Read.the-variants.{Value, Nothing}
+use Rattle.digits.proofs.Limits.{Is-read}
 use Rattle.digits.proofs.Numerals.{decimal-length, hex8-length, dotted-length}
-use Rattle.answer.specs.Lines.{_says_or_, reasonOf, statusLine, numbered, cseqLine, sessionLine, publicLine, textAt, unsupportedLine, transportStart, portsText, transportLine, streamLine, rtpInfoLine}
+use Rattle.answer.specs.Lines.{_says_or_, reasonOf, statusLine, numbered, cseqLine, sessionLine, publicLine, unsupportedLine, transportStart, portsText, transportLine, streamLine, rtpInfoLine}
 use Rattle.answer.specs.Answers.{optionsLines, setupLines, playLines, linesBy, linesOf, answerWith}
 use Rattle.answer.specs.declared.Kind.{Kind}
 use Rattle.answer.specs.declared.Kind.the-variants.{Bare, Allow, Public, Unsupported, Options, Setup, Play, Teardown}
@@ -25,15 +23,6 @@ use Rattle.answer.specs.declared.Answer.{Answer}
 -- numbers of 32 bits, as the code's are
 abbrev pub Is-small : ℕ → Type 0
 Is-small v = v < 4294967296
-
--- a number, where one was read
-abbrev pub Is-read : (ℕ → Type 0) → Read → Type 0
-Is-read P (Value v) = P v
-Is-read P Nothing = Unit {0}
-
-pub as-read : (P : ℕ → Type 0) (r : Read) → ((v : ℕ) → r ≡ Value v → P v) → Is-read P r
-as-read P (Value v) h = h v refl
-as-read P Nothing h = tt
 
 pub record Small (a : Answer) : Type 0 where
   pub status : Is-small (a .status)
@@ -81,13 +70,6 @@ cseq-fits Nothing h = omega arith
 
 session-fits : (session : ℕ) (end : List ℕ) → length (sessionLine session end) ≡ 17 + length end
 session-fits session end = rw (length-append, length-append) (omega (arith, hex8-length session))
-
-pub text-fits : (request : List ℕ) (place : Span) → length (textAt request place) ≤ length request
-unfolding textAt
-text-fits request place =
-    cond-keeps (λ (l : List ℕ). length l ≤ length request) (leb (place .start) (place .end) && leb (place .end) (length request)) _ []
-    (λ e. let h = leb-true (place .end) (length request) (and-both (leb (place .start) (place .end)) _ e .1) in omega (arith, part-length (place .start) (place .end) request h))
-    (λ e. omega arith)
 
 -- the lines of each kind, beside the word that they take from the request
 module _ (word : List ℕ) (a : Answer) (s : Small a) where

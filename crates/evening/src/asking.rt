@@ -1,36 +1,14 @@
-// Requests: a line's text is sent to the box, and the answer is written on one line. In both `|` stands for CR LF, and in a request `^` for
-// a hundred letters `a`.
+// Requests: a line's text, a request in its short form, is sent to the box, and the answer is written on one line, with `|` for CR LF.
 use crate::lent;
 use crate::out;
-use crate::script;
 use crate::show;
+use crate::words;
 use scan::Case;
 use scan::Class;
 use table::SatBox;
 
 // Where clients come from: the number in a line is added to 192.168.178.0.
 const NETWORK: u32 = 0xC0A8B200;
-
-// Puts what one byte stands for, and returns the place after it.
-fn unfold_byte(buf: &mut [u8], at: usize, b: u8) -> usize {
-    let one = [b; 1];
-    let run = [b'a'; 100];
-    match b {
-        b'|' => digits::put(buf, at, b"\r\n"),
-        b'^' => digits::put(buf, at, &run),
-        _ => digits::put(buf, at, &one),
-    }
-}
-
-fn unfold(buf: &mut [u8], s: &[u8]) -> usize {
-    let mut at = 0;
-    let mut i = 0;
-    while i < s.len() {
-        at = unfold_byte(buf, at, s[i]);
-        i += 1;
-    }
-    at
-}
 
 // The end of an answer's line; `?` where no line ends.
 fn show_end(s: &[u8]) {
@@ -46,8 +24,8 @@ fn show_answer(s: &[u8]) {
     let mut p = 0;
     while p < s.len() {
         let e = scan::first_from(s, p, Class::Is(b'\r'));
-        out::text(script::part(s, p, e));
-        show_end(script::part(s, e, e + 2));
+        out::text(words::part(s, p, e));
+        show_end(words::part(s, e, e + 2));
         p = e + 2;
     }
 }
@@ -63,9 +41,9 @@ fn answered(answer: &[u8], count: u32) {
 
 // Sends a request from the client that a line names.
 fn send(t: SatBox, request: &[u8], line: &[u8], answer: &mut [u8], journal: &mut [u8]) -> SatBox {
-    let clock = script::number(line, 1);
-    let address = std::num::wrapping_add_u32(NETWORK, script::number(line, 2));
-    let draw = script::number(line, 3);
+    let clock = words::number(line, 1);
+    let address = std::num::wrapping_add_u32(NETWORK, words::number(line, 2));
+    let draw = words::number(line, 3);
     lent::prepare(answer);
     let r = satbox::request(t, request, clock, address, draw, answer, journal);
     let u = r.satbox;
@@ -81,7 +59,7 @@ fn send(t: SatBox, request: &[u8], line: &[u8], answer: &mut [u8], journal: &mut
 fn ask_in(t: SatBox, journal: &mut [u8], room: u32, line: &[u8]) -> SatBox {
     let mut request = [0u8; 4096];
     let mut answer = [0u8; 8192];
-    let n = unfold(&mut request, script::rest(line, 4));
+    let n = script::unfold(&mut request, words::rest(line, 4));
     let m = lent::at_most(8192, room);
     if 4096 < n {
         out::text(b"  too long\n");
@@ -98,12 +76,12 @@ pub(crate) fn ask(t: SatBox, journal: &mut [u8], line: &[u8]) -> SatBox {
 
 // `lend ANSWER JOURNAL` and an `ask`, which is lent buffers of these lengths.
 pub(crate) fn lend(t: SatBox, journal: &mut [u8], line: &[u8]) -> SatBox {
-    let n = lent::at_most(journal.len(), script::number(line, 2));
+    let n = lent::at_most(journal.len(), words::number(line, 2));
     ask_in(
         t,
         &mut journal[0..n],
-        script::number(line, 1),
-        script::rest(line, 3),
+        words::number(line, 1),
+        words::rest(line, 3),
     )
 }
 

@@ -3,15 +3,15 @@ use crate::asking;
 use crate::fields;
 use crate::lent;
 use crate::out;
-use crate::script;
 use crate::show;
+use crate::words;
 use orders::Ordered;
 use table::SatBox;
 
 // `box F C`
 pub(crate) fn make(journal: &mut [u8], line: &[u8]) -> SatBox {
-    let frontends = fields::medium(script::number(line, 1));
-    let made = SatBox::fresh(frontends, script::number(line, 2));
+    let frontends = fields::medium(words::number(line, 1));
+    let made = SatBox::fresh(frontends, words::number(line, 2));
     let t = made.satbox;
     let outcome = made.outcome;
     lent::fill(journal, lent::UNWRITTEN);
@@ -22,8 +22,8 @@ pub(crate) fn make(journal: &mut [u8], line: &[u8]) -> SatBox {
 
 // `tick CLOCK`, and the length of the journal lent where it is not the box's.
 pub(crate) fn tick(t: SatBox, journal: &mut [u8], line: &[u8]) -> SatBox {
-    let clock = script::number(line, 1);
-    let n = lent::at_most(journal.len(), script::number_or(line, 2, t.size));
+    let clock = words::number(line, 1);
+    let n = lent::at_most(journal.len(), words::number_or(line, 2, t.size));
     let r = satbox::tick(t, clock, &mut journal[0..n]);
     let u = r.satbox;
     let outcome = r.outcome;
@@ -48,8 +48,8 @@ fn collect_into(t: SatBox, journal: &[u8], buffer: &mut [u8]) -> SatBox {
 // `collect LENGTH`, and the length of the journal lent where it is not the box's.
 pub(crate) fn collect(t: SatBox, journal: &[u8], line: &[u8]) -> SatBox {
     let mut buffer = [0u8; 65536];
-    let n = lent::at_most(65536, script::number(line, 1));
-    let k = lent::at_most(journal.len(), script::number_or(line, 2, t.size));
+    let n = lent::at_most(65536, words::number(line, 1));
+    let k = lent::at_most(journal.len(), words::number_or(line, 2, t.size));
     collect_into(t, &journal[0..k], &mut buffer[0..n])
 }
 
@@ -73,7 +73,7 @@ fn show_order(label: &[u8], t: SatBox, n: u32) {
 
 // `order FRONTEND`
 pub(crate) fn order(t: SatBox, line: &[u8]) -> SatBox {
-    show_order(b" ", t, script::number(line, 1));
+    show_order(b" ", t, words::number(line, 1));
     t
 }
 

@@ -3,10 +3,9 @@ use crate::asking;
 use crate::calls;
 use crate::fields;
 use crate::out;
-use crate::script;
 use crate::show;
+use crate::words;
 use scan::Case;
-use scan::Class;
 use table::SatBox;
 
 fn show_table(t: SatBox) -> SatBox {
@@ -16,14 +15,14 @@ fn show_table(t: SatBox) -> SatBox {
 
 // `journal FROM TO`
 fn show_journal(t: SatBox, journal: &[u8], line: &[u8]) -> SatBox {
-    show::records(journal, script::number(line, 1), script::number(line, 2));
+    show::records(journal, words::number(line, 1), words::number(line, 2));
     t
 }
 
 fn command(t: SatBox, journal: &mut [u8], line: &[u8]) -> SatBox {
     let place = scan::place_among(
         b"box ask lend tick collect order set spoil table journal",
-        script::word(line, 0),
+        words::word(line, 0),
         Case::Counts,
     );
     match place {
@@ -41,17 +40,14 @@ fn command(t: SatBox, journal: &mut [u8], line: &[u8]) -> SatBox {
     }
 }
 
-// Plays each line that ends.
 pub(crate) fn play(input: &[u8], journal: &mut [u8]) {
     let mut t = SatBox::fresh(0, 0).satbox;
     let mut p = 0;
     while p < input.len() {
-        let e = scan::first_from(input, p, Class::Is(b'\n'));
-        if input.len() <= e {
-            return;
-        }
-        out::text(&input[p..e + 1]);
-        t = command(t, journal, &input[p..e]);
-        p = e + 1;
+        let line = script::line(input, p);
+        out::text(line);
+        out::text(b"\n");
+        t = command(t, journal, line);
+        p += line.len() + 1;
     }
 }

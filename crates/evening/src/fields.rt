@@ -1,5 +1,5 @@
 // One field of a table set by hand, as no call sets it.
-use crate::script;
+use crate::words;
 use scan::Case;
 use stream::Stream;
 use stream::Values;
@@ -100,12 +100,12 @@ fn set_stream(t: SatBox, place: usize, field: usize, v: u32, entry: usize) -> Sa
 pub(crate) fn set(t: SatBox, line: &[u8]) -> SatBox {
     let field = scan::place_among(
         b"number address last port stream owner playing src freq pol msys mtype plts ro sr fec count frontend all pids size held clock sequence frontends",
-        script::word(line, 1),
+        words::word(line, 1),
         Case::Counts,
     );
-    let place = script::number(line, 2) as usize;
-    let v = script::number(line, 3);
-    let entry = script::number(line, 4) as usize;
+    let place = words::number(line, 2) as usize;
+    let v = words::number(line, 3);
+    let entry = words::number(line, 4) as usize;
     if field < 7 {
         return set_session(t, place, field, v);
     }

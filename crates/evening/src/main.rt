@@ -6,8 +6,8 @@ mod commands;
 mod fields;
 mod lent;
 mod out;
-mod script;
 mod show;
+mod words;
 
 fn main() {
     let mut input = [0u8; 131072];

@@ -1,5 +1,5 @@
 // What the evening writes to standard output.
-use crate::script;
+use crate::words;
 
 pub(crate) fn text(s: &[u8]) {
     io::write_all(1, s);
@@ -20,7 +20,7 @@ pub(crate) fn numbers(labels: &[u8], values: &[u32]) {
     let mut i = 0;
     while i < values.len() {
         text(b" ");
-        text(script::word(labels, i));
+        text(words::word(labels, i));
         number(b" ", values[i]);
         i += 1;
     }

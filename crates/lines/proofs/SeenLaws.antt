@@ -2,7 +2,7 @@
 use mathlib.Core.Path.{_≡_, refl, ap, _∙_, sym}
 use mathlib.Core.Bool.{Bool, true, false, cond, _&&_}
 use mathlib.Core.List.{List, [], _∷_, _++_, append-nil, append-assoc}
-use Prim.Native.Nat.{ℕ, zero, suc, _+_, _-_, _≤_, _<_, min}
+use Prim.Native.Nat.{ℕ, suc, _+_, _-_, _≤_, _<_, min}
 use native.Mathlib.Decide.{ℕ-discrete}
 use native.Mathlib.Omega.{arith}
 use lib.Dec.{eqb}
@@ -18,7 +18,7 @@ use Rattle.scan.specs.declared.Case.the-variants.{Ignored}
 use Rattle.scan.specs.declared.Class.the-variants.{NotText}
 use Rattle.scan.proofs.Bools.{never, by-test, by-cases}
 use Rattle.scan.proofs.Loops.{first-within}
-use Rattle.scan.proofs.Parts.{part-length, part-empty, holds-inside}
+use Rattle.scan.proofs.Parts.{part-length, part-empty, all-same, some-part, holds-nothing, holds-inside}
 use Rattle.lines.specs.Headers.{known, nameOf, isHeader, headerOf, valueOf, valuesOf}
 use Rattle.lines.specs.Lines.{lines, areHeaders, areLines, isLaidOut, requestLine, headerLines, untilEmpty}
 use Rattle.lines.specs.Laid.{HeaderIs, SeenIs, unseen, seenAgain, isPairAt, brokenLines, HeadersAre, LinesAre}
@@ -44,7 +44,7 @@ pub record Sent (s : List ℕ) (whole rest : List (List ℕ)) (seen : Seen) : Ty
   pub is : SeenIs s done seen
 
 unseen-is : (s : List ℕ) → SeenIs s [] unseen
-unseen-is s = record { times = refl; value = record { order = omega arith; within = omega arith; is = refl } }
+unseen-is s = record { times = refl; value = holds-nothing s }
 
 -- the header lines before place p are seen
 pub record Noting (s : List ℕ) (all : List (List ℕ)) (p : ℕ) (hs : List Seen) : Type 0 where
@@ -53,21 +53,9 @@ pub record Noting (s : List ℕ) (all : List (List ℕ)) (p : ℕ) (hs : List Se
   pub six : length hs ≡ 6
   pub seen : (k : ℕ) → Sent s (valuesOf k (untilEmpty all)) (valuesOf k (untilEmpty (lines (drop p s)))) (getD hs k unseen)
 
-none-seen : (n k : ℕ) → getD (replicate n unseen) k unseen ≡ unseen
-none-seen zero k = refl
-none-seen (suc n) zero = refl
-none-seen (suc n) (suc k) = none-seen n k
-
 pub noting-start : (s : List ℕ) (p : ℕ) → p ≤ length s → Noting s (lines (drop p s)) p (replicate 6 unseen)
 noting-start s p h =
-    record { inside = h; same = refl; six = refl; seen = λ k. rw (none-seen 6 k) (record { done = []; split = refl; is = unseen-is s }) }
-
-some-part : (s : List ℕ) (p e : ℕ) → p < e → e ≤ length s → isEmpty (part p e s) ≡ false
-some-part s p e h k = filled (part p e s) (rw (part-length p e s k) (omega arith))
-  where
-    filled : (xs : List ℕ) → 0 < length xs → isEmpty xs ≡ false
-    filled [] l = absurd (omega arith)
-    filled (x ∷ xs) l = refl
+    record { inside = h; same = refl; six = refl; seen = λ k. rw (all-same 6 k unseen) (record { done = []; split = refl; is = unseen-is s }) }
 
 -- a kind is at most 5 exactly if the line is a header
 few-kinds : (line : List ℕ) → headerOf line ≤ 5
@@ -199,7 +187,7 @@ module _ (s : List ℕ) {e : ℕ} (short : length s ≤ 2048) (f : FirstFrom (in
         record {
           sound = sym (laid-alone z ∙ eq-eqb 2 (length s) (sym l));
           line = λ _. rw last (record { order = omega arith; within = omega arith; is = refl });
-          headers = λ _ k. rw (last, none-seen 6 k) (unseen-is s);
+          headers = λ _ k. rw (last, all-same 6 k unseen) (unseen-is s);
           none = λ n. never refl n;
         }
 

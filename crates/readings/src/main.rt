@@ -1,8 +1,8 @@
 // Reads each line of standard input as a request and writes what `reader` makes of it; the file `stdout` says what that must be.
 mod asked;
 mod out;
-mod unfold;
+mod requests;
 
 fn main() {
-    unfold::run();
+    requests::run();
 }

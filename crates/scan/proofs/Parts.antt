@@ -1,12 +1,14 @@
 -- Parts of a list: their length, a part of a part, and what a span of a part holds in the whole. Assumes nothing.
-use mathlib.Core.Path.{_≡_, ap, _∙_, sym}
+use mathlib.Core.Path.{_≡_, refl, ap, _∙_, sym}
+use mathlib.Core.Bool.{false}
 use mathlib.Core.List.{List, [], _∷_, _++_}
 use Prim.Native.Nat.{ℕ, zero, suc, _+_, _-_, _≤_, _<_}
 use native.Mathlib.Nat.{suc-sub-suc, sub-zero, zero-sub}
 use native.Mathlib.Omega.{arith}
-use lib.ListN.{length, getD, take, drop, length-take, length-drop}
+use lib.ListN.{length, getD, take, drop, replicate, length-take, length-drop}
 use lib.Seq.{take-take, drop-drop, take-nil, take-all, take-suc, getD-drop}
 use Rattle.scan.specs.Lists.{part, Holds}
+use Rattle.scan.specs.Trim.{isEmpty}
 
 module _ {A : Type 0} where
   drop-take : (i n : ℕ) (l : List A) → drop i (take n l) ≡ take (n - i) (drop i l)
@@ -23,6 +25,12 @@ module _ {A : Type 0} where
   part-empty a e s h =
       let n : e - a ≡ 0 = omega arith in
       rw n
+
+  -- each element of a list of one value is that value, and so is what stands for one past its end
+  pub all-same : (n k : ℕ) (x : A) → getD (replicate n x) k x ≡ x
+  all-same zero k x = refl
+  all-same (suc n) zero x = refl
+  all-same (suc n) (suc k) x = all-same n k x
 
   -- the part to the end is the rest
   pub part-rest : (a e : ℕ) (s : List A) → length s ≤ e → part a e s ≡ drop a s
@@ -57,6 +65,10 @@ module _ {A : Type 0} where
         is = sym (part-part i j a e s (omega arith)) ∙ ap (part i j) (sym q) ∙ r .is;
       }
 
+  -- nothing stands from the start up to the start
+  pub holds-nothing : (xs : List A) → Holds xs [] 0 0
+  holds-nothing xs = record { order = omega arith; within = omega arith; is = refl }
+
   -- a span is as long as what it holds
   pub holds-length : {xs ys : List A} {i j : ℕ} → Holds xs ys i j → j ≡ i + length ys
   holds-length {xs} {ys} {i} {j} r =
@@ -64,3 +76,11 @@ module _ {A : Type 0} where
       let m : length (part i j xs) ≡ length ys = ap length (r .is) in
       let o : i ≤ j = r .order in
       omega arith
+
+-- a text that has a byte is not empty, nor is a part that ends after its start
+pub some-text : (xs : List ℕ) → 0 < length xs → isEmpty xs ≡ false
+some-text [] h = absurd (omega arith)
+some-text (x ∷ xs) h = refl
+
+pub some-part : (s : List ℕ) (a e : ℕ) → a < e → e ≤ length s → isEmpty (part a e s) ≡ false
+some-part s a e h k = some-text (part a e s) (rw (part-length a e s k) (omega arith))

@@ -16,6 +16,7 @@ use Rattle.digits.specs.Reading.{readNumber, isValue}
 use Rattle.digits.specs.declared.Zeros.the-variants.{Allowed}
 use Rattle.digits.specs.declared.Read.{Read}
 use Rattle.digits.specs.declared.Read.the-variants.{Nothing}
+use Rattle.digits.proofs.Limits.{Is-read, read-keeps, number-most}
 use Rattle.lines.specs.Lines.{isLaidOut, requestLine, headerLines}
 use Rattle.lines.specs.Headers.{valuesOf, firstValue}
 use Rattle.target.specs.Line.{isThree}
@@ -35,10 +36,9 @@ use Rattle.answer.specs.Lines.{textAt, statusLine, cseqLine}
 use Rattle.answer.specs.Answers.{linesBy, answerWith, answerText}
 use Rattle.answer.specs.declared.Kind.{Kind}
 use Rattle.answer.specs.declared.Kind.the-variants as kind
-use Rattle.stream.proofs.Edits.{read-most}
-use Rattle.answer.proofs.Fits.{Is-small, Is-read, as-read, answer-fits}
+use Rattle.answer.proofs.Fits.{Is-small, answer-fits}
 use Rattle.steps.proofs.Telling.{asked-short, head-short}
-use Rattle.steps.specs.Cases.{statusOf, isPassed, _refuses_or_ as _stops_or_}
+use Rattle.steps.specs.Cases.{statusOf, isPassed}
 use Rattle.steps.specs.Steps.{lacksSession, isDead, isOutOfState, isAnothers, lacksPort, tableCase}
 use Rattle.steps.specs.Replies.{grantedKind, kindOf, reply, replyTo, wordIn, replyText}
 use Rattle.steps.specs.declared.Sight.{Sight}
@@ -83,10 +83,14 @@ unread-keeps P p q Full n = q Full (refl, λ _. refl, λ _. refl)
 pub unread-passed : (c : Case) → isReading c ≡ false → isPassed c ≡ true → c ≡ Passed
 unread-passed = unread-keeps (λ c. isPassed c ≡ true → c ≡ Passed) (λ _. refl) (λ c b e. never e (b .0))
 
+-- what holds of two refusals holds of the first that applies
+refuses-keeps : {A : Type 0} (P : A → Type 0) (b : Bool) (x y : A) → P x → P y → P (b refuses x or y)
+refuses-keeps P true x y p q = p
+refuses-keeps P false x y p q = q
+
 -- steps 11 to 15 are none of the reading's
-pub unread-chain : (b : Bool) (c d : Case) → isReading c ≡ false → isReading d ≡ false → isReading (b stops c or d) ≡ false
-unread-chain true c d p q = p
-unread-chain false c d p q = q
+pub unread-chain : (b : Bool) (c d : Case) → isReading c ≡ false → isReading d ≡ false → isReading (b refuses c or d) ≡ false
+unread-chain = refuses-keeps (λ c. isReading c ≡ false)
 
 pub table-unread : (v : Sight) → isReading (tableCase v) ≡ false
 unfolding tableCase
@@ -110,10 +114,6 @@ unfolding textAt
 text-nowhere s = cond-keeps (λ (l : List ℕ). l ≡ []) (leb 0 0 && leb 0 (length s)) [] [] (λ _. refl) (λ _. refl)
 
 -- step 5 is a Require header's
-refuses-keeps : (P : Refusal → Type 0) (b : Bool) (x y : Refusal) → P x → P y → P (b refuses x or y)
-refuses-keeps P true x y p q = p
-refuses-keeps P false x y p q = q
-
 uri-step : (frontends : ℕ) (method : Method) (u : List ℕ) → reading.stepOf (uriRefusal frontends method u) ≡ 5 → ⊥
 unfolding uriRefusal
 uri-step frontends method u =
@@ -252,7 +252,7 @@ cseq-small s =
     let value = firstValue (valuesOf 0 (headerLines s)) in
     cond-keeps (Is-read Is-small) (isLaidOut s) _ Nothing
     (λ _. cond-keeps (Is-read Is-small) (eqb (length (valuesOf 0 (headerLines s))) 1) _ Nothing
-    (λ _. as-read Is-small (readNumber Allowed 10 4294967295 value) (λ v e. omega (arith, read-most 10 4294967295 value e))) (λ _. tt))
+    (λ _. read-keeps (λ v h. omega arith) (readNumber Allowed 10 4294967295 value) (number-most Allowed 10 4294967295 value)) (λ _. tt))
     (λ _. tt)
 
 -- a session's numbers of 32 bits, as the code's are

@@ -12,35 +12,30 @@ use lib.Seq.{ext-getD}
 use borrow.Author.Tests.{ltb-true, leb-true, eqb-true, le-ltb, lt-ltb}
 use Rattle.scan.specs.Text.{text}
 use Rattle.scan.specs.Lists.{part}
-use Rattle.scan.specs.Trim.{isEmpty}
-use Rattle.scan.proofs.Bools.{never, by-cases, by-test, cond-keeps, and-both, or-right}
+use Rattle.scan.proofs.Bools.{by-cases, cond-keeps, and-both, or-right}
 use Rattle.scan.proofs.Parts.{holds-length}
-use Rattle.digits.specs.Reading.{readNumber, atLeast, isValue, hasLeadingZero}
-use Rattle.digits.specs.declared.Zeros.{Zeros}
+use Rattle.digits.specs.Reading.{readNumber, atLeast}
 use Rattle.digits.specs.declared.Zeros.the-variants.{Allowed, Refused}
 use Rattle.digits.specs.declared.Read.{Read}
 use Rattle.digits.specs.declared.Read.the-variants.{Value, Nothing}
-use Rattle.lines.specs.Lines.{isLaidOut, requestLine, headerLines}
-use Rattle.lines.specs.Headers.{valuesOf}
-use Rattle.target.specs.Line.{isThree}
-use Rattle.target.specs.Uri.{streamIn, streamOf, restOf, slash, startsWith, hasQuery, queryOf}
+use Rattle.digits.proofs.Limits.{Is-read, number-between}
+use Rattle.lines.specs.Lines.{isLaidOut}
+use Rattle.target.specs.Uri.{startsWith, hasQuery, queryOf}
 use Rattle.tuning.specs.Values.{valueOf}
 use Rattle.stream.specs.Values.{kept, isFit, areFit}
 use Rattle.stream.specs.Pids.{isIn}
-use Rattle.stream.proofs.Edits.{read-most}
 use Rattle.stream.proofs.Fitting.{all-in, fit-of, read-ranged}
 use Rattle.aim.specs.Query.{partsOf, attributeIn, valueIn, codeFrom, codeAmong, codeOf}
 use Rattle.aim.specs.Aim.{queryIn, codeIn}
-use Rattle.aim.specs.Refusals.{_refuses_or_, stepOf, isPassed}
+use Rattle.aim.specs.Refusals.{_refuses_or_, stepOf}
 use Rattle.aim.specs.declared.refusals.Refusal.{Refusal}
-use Rattle.aim.specs.declared.refusals.Refusal.the-variants.{Passed, Layout, CSeq, RequestLine, HeaderTwice, Version, Require, Method as OtherMethod}
+use Rattle.aim.specs.declared.refusals.Refusal.the-variants.{Passed, Layout}
 use Rattle.reader.specs.Fields.{transportOf, portsIn, portFrom, isPair, dash}
 use Rattle.reader.specs.declared.fields.Transport.{Transport}
 use Rattle.reader.specs.declared.fields.Transport.the-variants.{Other, Port}
-use Rattle.reader.specs.Request.{methodOf, uriOf, isOther, cseqOf, isTwice, isVersion, headRefusal, requestRefusal, RequestIs}
+use Rattle.reader.specs.Request.{uriOf, headRefusal, requestRefusal, RequestIs}
 use Rattle.reader.specs.declared.Request.{Request}
-use Rattle.answer.proofs.Fits.{Is-read, as-read}
-use Rattle.steps.specs.Asked.{streamFrom, codesIn, askedOf, listsOf, askedBy, listsBy, Told}
+use Rattle.steps.specs.Asked.{codesIn, askedOf, listsOf, askedBy, listsBy, Told}
 
 -- THE CODES, by the attribute's place
 -- so many numbers from n on
@@ -88,25 +83,6 @@ module _ (frontends : ℕ) (s : List ℕ) (r : Request) (i : RequestIs frontends
       }
 
 -- WHAT IS READ OF A TEXT IS IN RANGE
--- a number is at most its limit
-plain-most : (most limit : ℕ) (xs : List ℕ) → Is-read (λ v. v ≤ limit) (readNumber Allowed most limit xs)
-plain-most most limit xs = as-read (λ v. v ≤ limit) (readNumber Allowed most limit xs) (λ v. read-most most limit xs)
-
-number-most : (zeros : Zeros) (most limit : ℕ) (xs : List ℕ) → Is-read (λ v. v ≤ limit) (readNumber zeros most limit xs)
-unfolding readNumber
-number-most Allowed most limit xs = plain-most most limit xs
-number-most Refused most limit xs =
-    cond-keeps (Is-read (λ v. v ≤ limit)) (hasLeadingZero xs) Nothing (readNumber Allowed most limit xs) (λ _. tt) (λ _. plain-most most limit xs)
-
--- and at least what it must be
-pub number-between : (zeros : Zeros) (most least limit : ℕ) (xs : List ℕ) → Is-read (λ v. (least ≤ v) × (v ≤ limit)) (atLeast least (readNumber zeros most limit xs))
-number-between zeros most least limit xs = by (readNumber zeros most limit xs) (number-most zeros most limit xs)
-  where
-    by : (r : Read) → Is-read (λ v. v ≤ limit) r → Is-read (λ v. (least ≤ v) × (v ≤ limit)) (atLeast least r)
-    by (Value v) h =
-        cond-keeps (Is-read (λ w. (least ≤ w) × (w ≤ limit))) (leb least v) (Value v) Nothing (λ e. (leb-true least v e, h)) (λ _. tt)
-    by Nothing h = tt
-
 -- a code is 0 or read of a text
 pub code-keeps : (P : ℕ → Type 0) (frontends a : ℕ) (u : List ℕ) → P 0 → ((xs : List ℕ) (c : ℕ) → valueOf frontends a xs ≡ Value c → P c) → P (codeIn frontends a u)
 unfolding codeOf
@@ -134,21 +110,6 @@ asked-fe frontends s =
     rw (code-at frontends 1 (uriOf s) (omega arith))
     (code-keeps (λ c. c ≤ frontends) frontends 1 (uriOf s) (omega arith)
     (λ xs c e. subst (Is-read (λ v. (1 ≤ v) × (v ≤ frontends))) e (number-between Allowed 5 1 frontends xs) .1))
-
-pub asked-stream : (u : List ℕ) → streamFrom (streamOf u) ≤ 65535
-unfolding streamIn
-asked-stream u =
-    cond-keeps (λ r. streamFrom r ≤ 65535) (isEmpty path) (Value 0) _ (λ _. omega arith)
-    (λ _. cond-keeps (λ r. streamFrom r ≤ 65535) (startsWith (text "stream=") path) _ Nothing
-    (λ _. from (atLeast 1 (readNumber Refused 5 65535 (drop 7 path))) (number-between Refused 5 1 65535 (drop 7 path)))
-    (λ _. omega arith))
-  where
-    path : List ℕ
-    path = drop (slash (restOf u) + 1) (restOf u)
-
-    from : (r : Read) → Is-read (λ v. (1 ≤ v) × (v ≤ 65535)) r → streamFrom r ≤ 65535
-    from (Value v) h = h .1
-    from Nothing h = omega arith
 
 -- the first of the two ports of a Transport that is of its form
 abbrev Is-port : ℕ → Type 0
@@ -189,27 +150,3 @@ request-short frontends s h = head-short s (λ e. h (rw e))
 
 pub asked-short : (frontends : ℕ) (s : List ℕ) → requestRefusal frontends s ≡ Passed → length s ≤ 2048
 asked-short frontends s p = request-short frontends s (λ e. let n : _≡_ {A = ℕ} 0 1 = ap stepOf (sym p ∙ e) in omega arith)
-
--- and one of another method at step 6
-head-passed : (frontends : ℕ) (s : List ℕ) → requestRefusal frontends s ≡ Passed → isPassed (headRefusal s) ≡ true
-unfolding requestRefusal
-head-passed frontends s p =
-    by-test (λ t. t ≡ true) (isPassed (headRefusal s)) (λ _. refl) (λ n. sym (ap isPassed (sym p) ∙ rw n n))
-
-pub asked-method : (frontends : ℕ) (s : List ℕ) → requestRefusal frontends s ≡ Passed → isOther (methodOf s) ≡ false
-unfolding headRefusal
-asked-method frontends s p =
-    last (not (isLaidOut s)) (not (isValue (cseqOf s))) (not (isThree (requestLine s))) (isTwice (headerLines s)) (not (isVersion s))
-    (ltb 0 (length (valuesOf 3 (headerLines s)))) (isOther (methodOf s)) (head-passed frontends s p)
-  where
-    last : (a b c d e f g : Bool)
-        → isPassed (a refuses Layout or b refuses CSeq or c refuses RequestLine or d refuses HeaderTwice or e refuses Version or f refuses Require or g refuses OtherMethod or Passed) ≡ true
-        → g ≡ false
-    last false false false false false false false q = refl
-    last false false false false false false true q = never refl (sym q)
-    last false false false false false true g q = never refl (sym q)
-    last false false false false true f g q = never refl (sym q)
-    last false false false true e f g q = never refl (sym q)
-    last false false true d e f g q = never refl (sym q)
-    last false true c d e f g q = never refl (sym q)
-    last true b c d e f g q = never refl (sym q)

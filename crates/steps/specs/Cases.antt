@@ -3,6 +3,7 @@ use Prim.Native.Nat.{ℕ}
 use lib.Dec.{eqb}
 use mathlib.Core.Bool.{Bool, true, false, not}
 use Rattle.aim.specs.Refusals as reading
+pub use Rattle.aim.specs.Refusals.{_refuses_or_}
 use Rattle.steps.specs.declared.cases.Case.{Case}
 use Rattle.steps.specs.declared.cases.Case.the-variants.{Passed, Reading, NoSession, NotLive, State, NotOwner, Transport, Combination, TooManyPids, Full}
 
@@ -34,12 +35,6 @@ statusOf Full = 503
 
 abbrev pub isPassed : Case → Bool
 isPassed c = eqb (stepOf c) 0
-
--- "first that applies"
-infixr 50 _refuses_or_
-abbrev pub _refuses_or_ : Bool → Case → Case → Case
-_refuses_or_ true c d = c
-_refuses_or_ false c d = d
 
 -- the second where the first passes
 abbrev pub orElse : Case → Case → Case

@@ -1,38 +1,22 @@
 -- One piece of a text, and what it does to the PIDs at the front of an array. Assumes nothing.
-use mathlib.Core.Path.{_≡_, refl, ap, subst, _∙_, sym}
-use mathlib.Core.Bool.{Bool, true, false, cond, _&&_}
+use mathlib.Core.Path.{_≡_, ap, subst, _∙_, sym}
 use mathlib.Core.List.{List, _∷_, _++_}
-use Prim.Native.Nat.{ℕ, suc, _+_, _≤_, _<_}
+use Prim.Native.Nat.{ℕ, suc, _≤_, _<_}
 use native.Mathlib.Omega.{arith}
-use lib.Dec.{leb}
 use lib.ListN.{length, take, drop}
 use lib.Seq.{length-take-le}
-use borrow.Author.Tests.{leb-true}
-use Rattle.digits.specs.Reading.{readNumber, areDigits, spelled}
 use Rattle.digits.specs.declared.Read.{Read}
 use Rattle.digits.specs.declared.Read.the-variants.{Value, Nothing}
 use Rattle.digits.specs.declared.Zeros.the-variants.{Allowed}
+use Rattle.digits.proofs.Limits.{Is-read, number-most}
 use Rattle.stream.specs.Pids.{added, removed, readPid}
 use Rattle.stream.specs.Arrays.{There, Missing, Placed, Front, Held, once}
 use Rattle.stream.specs.declared.pids.Place.{Place}
 use Rattle.stream.specs.declared.pids.Place.the-variants.{At, Before}
 
--- a number is at most its limit
-pub read-most : (most limit : ℕ) (xs : List ℕ) {v : ℕ} → readNumber Allowed most limit xs ≡ Value v → v ≤ limit
-unfolding readNumber
-read-most most limit xs {v} e =
-    by (leb 1 (length xs)) (leb (length xs) most) (areDigits 10 xs) (leb (spelled 10 xs) limit) (leb-true (spelled 10 xs) limit) e
-  where
-    by : (a b c d : Bool) {n : ℕ} → (d ≡ true → n ≤ limit) → cond (a && (b && (c && d))) (Value n) Nothing ≡ Value v → v ≤ limit
-    by true true true true {n} h q = let k : n ≡ v = cc in omega (arith, h refl)
-    by true true true false h q = let z : _≡_ {A = ℕ} 0 1 = cc in absurd (omega arith)
-    by true true false d h q = let z : _≡_ {A = ℕ} 0 1 = cc in absurd (omega arith)
-    by true false c d h q = let z : _≡_ {A = ℕ} 0 1 = cc in absurd (omega arith)
-    by false b c d h q = let z : _≡_ {A = ℕ} 0 1 = cc in absurd (omega arith)
-
--- so is a PID
+-- a PID is at most 8191
 pub pid-most : (xs : List ℕ) {v : ℕ} → readPid xs ≡ Value v → v ≤ 8191
-pid-most xs e = read-most 5 8191 xs e
+pid-most xs e = subst (Is-read (λ v. v ≤ 8191)) e (number-most Allowed 5 8191 xs)
 
 -- nothing is changed
 pub front-same : (a : List ℕ) (count : ℕ) {l : List ℕ} → l ≡ take count a → count ≤ 32 → Front l a count

@@ -5,7 +5,7 @@ use mathlib.Core.Bool.{Bool, true, cond, _&&_, _||_}
 use mathlib.Core.List.{List, [], _∷_}
 use Prim.Native.Nat.{ℕ, _+_, _*_, _≤_}
 use native.Mathlib.Omega.{arith}
-use lib.Dec.{eqb, leb, ltb}
+use lib.Dec.{eqb, ltb}
 use lib.ListN.{length, getD, drop}
 use borrow.Author.Tests.{le-leb, ltb-true, eqb-true, eq-eqb}
 use Rattle.scan.specs.Text.{text}
@@ -15,15 +15,14 @@ use Rattle.scan.specs.Cut.{cut}
 use Rattle.scan.specs.Words.{placeAmong}
 use Rattle.scan.specs.declared.Case.the-variants.{Counts}
 use Rattle.scan.proofs.Bools.{never, and-both, by-test, both, or-right}
-use Rattle.digits.specs.Reading.{readNumber, atLeast}
 use Rattle.digits.specs.declared.Read.{Read}
 use Rattle.digits.specs.declared.Read.the-variants.{Value, Nothing}
 use Rattle.digits.specs.declared.Zeros.the-variants.{Allowed}
+use Rattle.digits.proofs.Limits.{Is-read, number-between}
 use Rattle.tuning.specs.Values.{plain, word, megahertz, hundredths, inBand, frequencyFrom, frequency, valueOf}
 use Rattle.stream.specs.Values.{isInRange, areInRange, given, kept, isFit, areFit, merged}
 use Rattle.stream.specs.Pids.{isIn}
 use Rattle.stream.specs.declared.Values.{Values}
-use Rattle.stream.proofs.Edits.{read-most}
 
 -- a test that all of a list pass
 pub all-in : (q : ℕ → Bool) (l : List ℕ) (a : ℕ) → all q l ≡ true → isIn a l ≡ true → q a ≡ true
@@ -68,14 +67,8 @@ same-read : {v c : ℕ} → Value v ≡ Value c → v ≡ c
 same-read e = cc
 
 plain-between : (low high : ℕ) (xs : List ℕ) {c : ℕ} → plain low high xs ≡ Value c → isBetween low high c ≡ true
-plain-between low high xs {c} = by (readNumber Allowed 5 high xs) (λ v. read-most 5 high xs)
-  where
-    by : (r : Read) → ((v : ℕ) → r ≡ Value v → v ≤ high) → atLeast low r ≡ Value c → isBetween low high c ≡ true
-    by Nothing h e = none-read e
-    by (Value v) h e =
-        by-test (λ t. cond t (Value v) Nothing ≡ Value c → isBetween low high c ≡ true) (leb low v)
-        (λ y z. let s : v ≡ c = same-read z in both (rw s at y) (le-leb c high (omega (arith, h v refl))))
-        (λ n z. none-read z) e
+plain-between low high xs {c} e =
+    let b = subst (Is-read (λ v. (low ≤ v) × (v ≤ high))) e (number-between Allowed 5 low high xs) in both (le-leb low c (b .0)) (le-leb c high (b .1))
 
 word-most : (words xs : List ℕ) {c : ℕ} → word words xs ≡ Value c → c ≤ length (cut 32 words)
 word-most words xs {c} e =

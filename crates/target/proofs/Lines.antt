@@ -2,7 +2,7 @@
 use mathlib.Core.Path.{_≡_, refl, ap, sym, _∙_}
 use mathlib.Core.Bool.{Bool, true, false, not, _&&_, _||_}
 use mathlib.Core.List.{List, [], _∷_}
-use Prim.Native.Nat.{ℕ, _+_, _-_, _≤_, _<_, max}
+use Prim.Native.Nat.{ℕ, _+_, _≤_, _<_, max}
 use native.Mathlib.Omega.{arith}
 use lib.Dec.{eqb}
 use lib.ListN.{length, getD}
@@ -11,26 +11,19 @@ use Rattle.scan.specs.Lists.{first, part, FirstFrom}
 use Rattle.scan.specs.Cut.{is, cut, cutFrom}
 use Rattle.scan.specs.Trim.{isEmpty}
 use Rattle.scan.proofs.Bools.{never}
-use Rattle.scan.proofs.Parts.{part-length, part-empty}
+use Rattle.scan.proofs.Parts.{part-empty, some-part}
 use Rattle.scan.proofs.Cuts.{cut-start, cut-turn, cut-end}
 use Rattle.target.specs.Line.{areThree, isThree, PartsAre}
 use Rattle.target.specs.Steps.{noParts}
 use Rattle.target.specs.declared.Parts.{Parts}
 
 -- a part is empty where it ends at its start
-some : (xs : List ℕ) → 0 < length xs → isEmpty xs ≡ false
-some [] h = absurd (omega arith)
-some (x ∷ xs) h = refl
-
 empty-part : (a e : ℕ) (s : List ℕ) → a ≤ e → e ≤ length s → isEmpty (part a e s) ≡ eqb e a
 empty-part a e s h k = go (eqb e a) refl
   where
     go : (t : Bool) → eqb e a ≡ t → isEmpty (part a e s) ≡ t
     go true q = let z : e ≡ a = eqb-true e a q in ap isEmpty (part-empty a e s (omega arith))
-    go false q =
-        let z : e ≡ a → ⊥ = eqb-false e a q in
-        let n : length (part a e s) ≡ e - a = part-length a e s k in
-        some (part a e s) (omega arith)
+    go false q = let z : e ≡ a → ⊥ = eqb-false e a q in some-part s a e (omega arith) k
 
 nor : (p q r : Bool) → (not p && (not q && not r)) ≡ not (p || q || r)
 nor true q r = refl

@@ -1,53 +1,39 @@
 -- A frequency by its two parts, each found from the place of the dot, and how large they are. Assumes nothing.
-use mathlib.Core.Path.{_≡_, refl, ap, subst, _∙_, sym}
-use mathlib.Core.Bool.{Bool, true, false, cond, _&&_}
+use mathlib.Core.Path.{_≡_, ap, subst, _∙_, sym}
+use mathlib.Core.Bool.{Bool, cond}
 use mathlib.Core.List.{List}
 use Prim.Native.Nat.{ℕ, _+_, _*_, _≤_, _<_}
 use native.Mathlib.Omega.{arith}
-use lib.Dec.{leb, eqb, ltb}
+use lib.Dec.{eqb, ltb}
 use lib.ListN.{length, drop}
-use borrow.Author.Tests.{leb-true, lt-ltb, le-ltb, eq-eqb, ne-eqb}
+use borrow.Author.Tests.{lt-ltb, le-ltb, eq-eqb, ne-eqb}
 use Rattle.scan.specs.Lists.{part, FirstOf}
 use Rattle.scan.specs.Cut.{is}
+use Rattle.scan.proofs.Bools.{cond-keeps}
 use Rattle.scan.proofs.Parts.{part-rest}
-use Rattle.digits.specs.Reading.{readNumber, areDigits, spelled}
+use Rattle.digits.specs.Reading.{readNumber}
 use Rattle.digits.specs.declared.Read.{Read}
 use Rattle.digits.specs.declared.Read.the-variants.{Value, Nothing}
 use Rattle.digits.specs.declared.Zeros.the-variants.{Allowed}
+use Rattle.digits.proofs.Limits.{Is-read, number-most}
 use Rattle.tuning.specs.Values.{dot, megahertz, tenfold, fraction, hundredths, inBand, frequencyFrom}
 
 -- what was read is at most n
-data AtMost (n : ℕ) : Read → Type 0 where
-  value : {v : ℕ} → v ≤ n → AtMost n (Value v)
-  nothing : AtMost n Nothing
+abbrev AtMost : ℕ → Read → Type 0
+AtMost n r = Is-read (λ v. v ≤ n) r
 
-small : {n v : ℕ} → AtMost n (Value v) → v ≤ n
-small (value h) = h
-
-either : {n : ℕ} (t : Bool) {a b : Read} → AtMost n a → AtMost n b → AtMost n (cond t a b)
-either true h k = h
-either false h k = k
-
--- a number is at most its limit
-read-most : (most limit : ℕ) (xs : List ℕ) → AtMost limit (readNumber Allowed most limit xs)
-unfolding readNumber
-read-most most limit xs = by (leb 1 (length xs)) (leb (length xs) most) (areDigits 10 xs) (leb (spelled 10 xs) limit) (leb-true (spelled 10 xs) limit)
-  where
-    by : (a b c d : Bool) {n : ℕ} → (d ≡ true → n ≤ limit) → AtMost limit (cond (a && (b && (c && d))) (Value n) Nothing)
-    by false b c d h = nothing
-    by true false c d h = nothing
-    by true true false d h = nothing
-    by true true true false h = nothing
-    by true true true true h = value (h refl)
+either : (n : ℕ) (t : Bool) (a b : Read) → AtMost n a → AtMost n b → AtMost n (cond t a b)
+either n t a b h k = cond-keeps (AtMost n) t a b (λ _. h) (λ _. k)
 
 -- a fraction is below a hundred hundredths
-tenfold-most : {r : Read} → AtMost 9 r → AtMost 99 (tenfold r)
-tenfold-most (value {v} h) = value {v = v * 10} (omega arith)
-tenfold-most nothing = nothing
+tenfold-most : (r : Read) → AtMost 9 r → AtMost 99 (tenfold r)
+tenfold-most (Value v) h = omega arith
+tenfold-most Nothing h = tt
 
 fraction-most : (xs : List ℕ) → AtMost 99 (fraction xs)
 fraction-most xs =
-    either (eqb (length xs) 1) (tenfold-most (read-most 1 9 xs)) (either (eqb (length xs) 2) (read-most 2 99 xs) nothing)
+    either 99 (eqb (length xs) 1) _ _ (tenfold-most (readNumber Allowed 1 9 xs) (number-most Allowed 1 9 xs))
+    (either 99 (eqb (length xs) 2) _ Nothing (number-most Allowed 2 99 xs) tt)
 
 -- ten times what was read
 module _ {q r : Read} (p : r ≡ q) where
@@ -60,13 +46,13 @@ module _ {q r : Read} (p : r ≡ q) where
 -- how large what was read can be, so that the sums of it fit
 module _ (xs : List ℕ) {r : Read} {v : ℕ} where
   pub digit-small : r ≡ readNumber Allowed 1 9 xs → r ≡ Value v → v ≤ 9
-  digit-small p e = small (subst (AtMost 9) (sym p ∙ e) (read-most 1 9 xs))
+  digit-small p e = subst (AtMost 9) (sym p ∙ e) (number-most Allowed 1 9 xs)
 
   pub megahertz-small : r ≡ megahertz xs → r ≡ Value v → v ≤ 99999
-  megahertz-small p e = small (subst (AtMost 99999) (sym p ∙ e) (either (eqb (dot xs) 5) (read-most 5 99999 (part 0 (dot xs) xs)) nothing))
+  megahertz-small p e = subst (AtMost 99999) (sym p ∙ e) (either 99999 (eqb (dot xs) 5) _ Nothing (number-most Allowed 5 99999 (part 0 (dot xs) xs)) tt)
 
   pub hundredths-small : r ≡ hundredths xs → r ≡ Value v → v ≤ 99
-  hundredths-small p e = small (subst (AtMost 99) (sym p ∙ e) (either (ltb (dot xs) (length xs)) (fraction-most (drop (dot xs + 1) xs)) (value {v = 0} (omega arith))))
+  hundredths-small p e = subst (AtMost 99) (sym p ∙ e) (either 99 (ltb (dot xs) (length xs)) _ (Value 0) (fraction-most (drop (dot xs + 1) xs)) (omega arith))
 
 -- the two parts by the place of the dot
 module _ {xs : List ℕ} {d : ℕ} (f : FirstOf (is 46) xs d) where

@@ -45,11 +45,8 @@ pub(crate) fn run() {
     let n = io::read_full(0, &mut input);
     let mut p = 0;
     while p < n {
-        let e = scan::first_from(&input, p, Class::Is(b'\n'));
-        if n <= e {
-            return;
-        }
-        line(&input[p..e]);
-        p = e + 1;
+        let s = script::line(&input[0..n], p);
+        line(s);
+        p += s.len() + 1;
     }
 }

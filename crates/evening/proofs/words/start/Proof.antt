@@ -1,8 +1,8 @@
--- `evening::script::start` meets its contract. Assumes nothing.
+-- `evening::words::start` meets its contract. Assumes nothing.
 use borrow.Author.Needs.{needs}
 use Prim.Native.Nat.{_-_, _≤_}
-use Rattle.evening.proofs.script.start.Statement.{statement}
-use Rattle.evening.proofs.script.start.Tie as tie
+use Rattle.evening.proofs.words.start.Statement.{statement}
+use Rattle.evening.proofs.words.start.Tie as tie
 
 abbrev Inv-loop : tie.InvT-loop
 Inv-loop line k at₀ i₀ at i = i ≤ k
