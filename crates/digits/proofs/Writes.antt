@@ -127,6 +127,12 @@ storing-end {b} {t} {d} {at} {i} {n} {next} s e h p =
     in
     record { is = none ∙ s .same; place = omega arith }
 
+-- a text that fits is stored whole
+pub storing-all : {b t d : List ℕ} {at i : ℕ} → Storing b at t d i → length t ≤ i → at + length t ≤ length b → Wrote b at t d (at + length t)
+storing-all {b} {t} {d} {at} {i} s h f =
+    let k : length d ≡ length b = s .kept in
+    storing-end {n = length t} s (omega arith) h (omega arith)
+
 -- the same text by another name
 pub wrote-as : {b d t u : List ℕ} {at next : ℕ} → t ≡ u → Wrote b at t d next → Wrote b at u d next
 wrote-as {b} {d} {t} {u} {at} {next} e w = subst (λ x. Wrote b at x d next) e w

@@ -3,7 +3,7 @@
 // first that settles the answer; writing goes straight into the buffer, each byte once.
 ghost use mathlib.Core.Path.{_≡_};
 ghost use Prim.Native.Nat.{_+_, _*_, _-_, _≤_, _<_, min};
-ghost use lib.ListN.{set};
+ghost use lib.ListN.{length, set};
 ghost use Rattle.digits.specs.Reading.{digitOf, readIn, hasLeadingZero, readNumber, atLeast, isValue, readHex8};
 ghost use Rattle.digits.specs.Writing.{shown, numeral, width, decimal, hex8, dotted};
 ghost use Rattle.digits.specs.Wrote.{Wrote};
@@ -154,8 +154,8 @@ fn place_after(len: usize, at: usize, count: usize) -> usize
     }
 }
 
-// Puts the text into the buffer at a place, as far as the buffer reaches, and returns the place after it.
-pub fn put(buf: &mut [u8], at: usize, t: &[u8]) -> usize
+// Puts as much of the text into the buffer at a place as the buffer reaches.
+fn put_some(buf: &mut [u8], at: usize, t: &[u8]) -> usize
     ensures { λ r. ⌜ Wrote (now (buf .entry)) at (now (t .entry)) (now (buf .exit)) r ⌝ }
 {
     let n = fitting(buf.len(), at, t.len());
@@ -165,6 +165,32 @@ pub fn put(buf: &mut [u8], at: usize, t: &[u8]) -> usize
         i += 1;
     }
     place_after(buf.len(), at, t.len())
+}
+
+// Puts a text that fits into the buffer at a place. A text of a known length is then stored without a loop.
+fn put_all(buf: &mut [u8], at: usize, t: &[u8]) -> usize
+    requires { ⌜ at + length (now t) ≤ length (now buf) ⌝ }
+    ensures { λ r. ⌜ Wrote (now (buf .entry)) at (now (t .entry)) (now (buf .exit)) r ⌝ }
+{
+    let mut i = 0;
+    while i < t.len() {
+        buf[at + i] = t[i];
+        i += 1;
+    }
+    at + t.len()
+}
+
+// Puts the text into the buffer at a place, as far as the buffer reaches, and returns the place after it.
+pub fn put(buf: &mut [u8], at: usize, t: &[u8]) -> usize
+    ensures { λ r. ⌜ Wrote (now (buf .entry)) at (now (t .entry)) (now (buf .exit)) r ⌝ }
+{
+    if buf.len() < at {
+        return put_some(buf, at, t);
+    }
+    if buf.len() - at < t.len() {
+        return put_some(buf, at, t);
+    }
+    put_all(buf, at, t)
 }
 
 // Stores a byte at a place, or nothing where the buffer ends before it.

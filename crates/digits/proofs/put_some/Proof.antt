@@ -1,11 +1,11 @@
--- `digits::put` meets its contract. Invariant: what is left of the text, stored from place at + i on, makes the buffer that is wanted.
+-- `digits::put_some` meets its contract. Invariant: what is left of the text, stored from place at + i on, makes the buffer that is wanted.
 -- Assumes nothing.
 use Prim.Native.Nat.{_-_}
 use native.Mathlib.Omega.{arith}
 use borrow.Author.Needs.{needs}
 use Rattle.digits.proofs.Writes.{Storing, storing-start, storing-more, storing-end}
-use Rattle.digits.proofs.put.Statement.{statement}
-use Rattle.digits.proofs.put.Tie as tie
+use Rattle.digits.proofs.put_some.Statement.{statement}
+use Rattle.digits.proofs.put_some.Tie as tie
 
 abbrev Inv-loop : tie.InvT-loop
 Inv-loop buf₀ at t n i₀ buf i = Storing buf₀ at t buf i
@@ -13,8 +13,8 @@ Inv-loop buf₀ at t n i₀ buf i = Storing buf₀ at t buf i
 abbrev μ-loop : tie.MeasureT-loop
 μ-loop buf₀ at t n i₀ buf i = n - i
 
-pub put-spec : {M : Type 1} → statement M
-put-spec =
+pub put-some-spec : {M : Type 1} → statement M
+put-some-spec =
     tie.close
     (tie.spec
     Inv-loop
