@@ -92,13 +92,19 @@ fn are_twice(headers: [Seen; 6]) -> bool
 fn method_in(text: &[u8]) -> Method
     ensures { λ r. ⌜ r ≡ methodIn (now (text .entry)) ⌝ }
 {
-    match scan::place_among(b"OPTIONS SETUP PLAY TEARDOWN", text, Case::Counts) {
-        0 => Method::Options,
-        1 => Method::Setup,
-        2 => Method::Play,
-        3 => Method::Teardown,
-        _ => Method::Other,
+    if scan::are_alike(b"OPTIONS", text, Case::Counts) {
+        return Method::Options;
     }
+    if scan::are_alike(b"SETUP", text, Case::Counts) {
+        return Method::Setup;
+    }
+    if scan::are_alike(b"PLAY", text, Case::Counts) {
+        return Method::Play;
+    }
+    if scan::are_alike(b"TEARDOWN", text, Case::Counts) {
+        return Method::Teardown;
+    }
+    Method::Other
 }
 
 fn is_other(method: Method) -> bool
