@@ -2,14 +2,15 @@
 -- law for its start, for a turn and for each way out; a turn's test is told as the equation that the test's contract gives.
 -- Assumes nothing.
 use mathlib.Core.Path.{_≡_, refl, ap, ap₂, _∙_, sym}
-use mathlib.Core.Bool.{Bool, true, false, cond}
+use mathlib.Core.Bool.{Bool, true, false, cond, not, _&&_}
 use mathlib.Core.List.{List, [], _∷_}
-use Prim.Native.Nat.{ℕ, suc, _+_, _-_, _≤_, _<_}
+use Prim.Native.Nat.{ℕ, zero, suc, _+_, _-_, _≤_, _<_}
 use native.Mathlib.Numerals.{add-one}
 use native.Mathlib.Omega.{arith}
-use lib.ListN.{length, getD, drop, length-drop, drop-of-length-le}
-use lib.Seq.{drop-cons}
-use Rattle.scan.specs.Lists.{all, first, FirstOf, FirstFrom, part}
+use lib.ListN.{length, getD, take, drop, length-drop, drop-of-length-le}
+use lib.Seq.{drop-cons, drop-drop}
+use Rattle.scan.specs.Lists.{all, first, FirstOf, FirstFrom, Passed, part}
+use Rattle.scan.proofs.Bools.{and-and, and-both, and-true, not-false}
 use Rattle.scan.proofs.Parts.{part-rest}
 
 -- what any function says of the rest at i: it goes by the element at i and the rest at i + 1, and there is nothing at the end
@@ -45,6 +46,13 @@ module _ {A : Type 0} (p : A → Bool) where
         let z : first p (drop i l) ≡ suc (first p (drop (i + 1) l)) = turn (first p) l i d h ∙ rw (sym e ∙ n) in
         record { inside = omega arith; same = omega arith ∙ s .same }
 
+  -- a place by another name
+  pub seeking-at : {l : List A} {i j : ℕ} → Seeking l i → i ≡ j → Seeking l j
+  seeking-at s e = record { inside = omega (arith, s .inside); same = rw (sym e) (s .same) }
+
+  pub seeking-passed : {l : List A} {i : ℕ} → Seeking l i → Passed p l i
+  seeking-passed s = record { inside = s .inside; same = s .same }
+
   -- every element before place i passes
   pub record Passing (l : List A) (i : ℕ) : Type 0 where
     pub inside : i ≤ length l
@@ -64,6 +72,45 @@ module _ {A : Type 0} (p : A → Bool) where
     pub passing-not : t ≡ false → false ≡ all p l
     passing-not n = sym (turn (all p) l i d h ∙ rw (sym e ∙ n)) ∙ s .same
 
+-- `t` says whether every element before place i passes
+module _ {A : Type 0} (p : A → Bool) where
+  pub record Telling (l : List A) (t : Bool) (i : ℕ) : Type 0 where
+    pub inside : i ≤ length l
+    pub same : t && all p (drop i l) ≡ all p l
+
+  pub telling-start : (l : List A) → Telling l true 0
+  telling-start l = record { inside = omega arith; same = refl }
+
+  pub telling-more : {l : List A} {i : ℕ} {t u : Bool} (d : A) → Telling l t i → i < length l → u ≡ p (getD l i d) → Telling l (t && u) (i + 1)
+  telling-more {l} {i} {t} {u} d s h e =
+      record { inside = omega arith; same = rw e (sym (and-and t (p (getD l i d)) _)) ∙ sym (ap (λ b. t && b) (turn (all p) l i d h)) ∙ s .same }
+
+  pub telling-end : {l : List A} {i : ℕ} {t : Bool} → Telling l t i → length l ≤ i → t ≡ all p l
+  telling-end {l} {i} {t} s h = sym (and-true t) ∙ sym (ap (λ b. t && b) (end (all p) l i h)) ∙ s .same
+
+-- a block of which every element passes holds none that does not: what is sought is past it
+module _ {A : Type 0} (q : A → Bool) where
+  abbrev fails : A → Bool
+  fails x = not (q x)
+
+  first-after : (n : ℕ) (l : List A) → n ≤ length l → all q (take n l) ≡ true → first fails l ≡ n + first fails (drop n l)
+  first-after zero l h e = omega arith
+  first-after (suc n) [] h e = absurd (omega arith)
+  first-after (suc n) (x ∷ l) h e =
+      let b = and-both (q x) (all q (take n l)) e in
+      let r = first-after n l (omega arith) (b .1) in
+      let z : first fails (x ∷ l) ≡ suc (first fails l) = rw (b .0) in
+      omega (arith, z, r)
+
+  pub seeking-block : {l : List A} {i j : ℕ} {t : Bool} → Seeking fails l i → i ≤ j → j ≤ length l → t ≡ all q (part i j l) → not t ≡ false → Seeking fails l j
+  seeking-block {l} {i} {j} {t} s h k e y =
+      let n : length (drop i l) ≡ length l - i = length-drop i l in
+      let r = first-after (j - i) (drop i l) (omega arith) (sym e ∙ not-false t y) in
+      let m : i + (j - i) ≡ j = omega arith in
+      let d : drop (j - i) (drop i l) ≡ drop j l = drop-drop (j - i) i l ∙ ap (λ k. drop k l) m in
+      let f : first fails (drop (j - i) (drop i l)) ≡ first fails (drop j l) = ap (first fails) d in
+      record { inside = k; same = omega (arith, s .same, r, f) }
+
 -- what is found in the rest from `at` on, and past the end
 module _ {A : Type 0} (p : A → Bool) (l : List A) (at : ℕ) where
   pub first-past : length l < at → FirstFrom p l at at
@@ -78,6 +125,15 @@ module _ {A : Type 0} (p : A → Bool) (l : List A) (at : ℕ) where
       let q : k ≡ first p (drop at l) = f .is ∙ ap (first p) r in
       let w : k ≤ length (drop at l) = rw r at (f .within) in
       record { is = omega arith; from = omega arith; within = omega arith }
+
+  -- what is found past elements that do not pass is found
+  pub passed-first : {k : ℕ} → Passed p l at → FirstOf p (part at (length l) l) k → FirstOf p l (at + k)
+  passed-first {k} t f =
+      let r : part at (length l) l ≡ drop at l = part-rest at (length l) l (omega arith) in
+      let n : length (drop at l) ≡ length l - at = length-drop at l in
+      let q : k ≡ first p (drop at l) = f .is ∙ ap (first p) r in
+      let w : k ≤ length (drop at l) = rw r at (f .within) in
+      record { is = omega (arith, t .same); within = omega (arith, t .inside) }
 
 -- the first place that passes is at most the length
 pub first-within : {A : Type 0} (p : A → Bool) (l : List A) → first p l ≤ length l

@@ -2,7 +2,7 @@
 // answer for all bytes and all places. A call looks at each byte at most once, `trimmed` at most twice, and copies none.
 ghost use mathlib.Core.Path.{_≡_};
 ghost use lib.Dec.{eqb};
-ghost use Rattle.scan.specs.Lists.{all, FirstOf, FirstFrom};
+ghost use Rattle.scan.specs.Lists.{all, FirstOf, FirstFrom, Passed};
 ghost use Rattle.scan.specs.Classes.{isDigit, isCapital, isName, isText, inClass};
 ghost use Rattle.scan.specs.Compare.{seen, areAlike};
 ghost use Rattle.scan.specs.Trim.{Trimmed};
@@ -66,8 +66,60 @@ pub fn in_class(c: Class, b: u8) -> bool
     }
 }
 
-// The place of the first byte of the class, or the length.
-pub fn first_in(s: &[u8], c: Class) -> usize
+// The place of the first byte that is x, or the length. Eight bytes are compared in a row before the end is looked for again.
+fn first_is(s: &[u8], x: u8) -> usize
+    ensures { λ r. ⌜ FirstOf (inClass (Class.Is x)) (now (s .entry)) r ⌝ }
+{
+    let mut at = 0;
+    while 8 <= s.len() - at {
+        let mut i = 0;
+        while i < 8 {
+            if in_class(Class::Is(x), s[at + i]) {
+                return at + i;
+            }
+            i += 1;
+        }
+        at += i;
+    }
+    while at < s.len() {
+        if in_class(Class::Is(x), s[at]) {
+            return at;
+        }
+        at += 1;
+    }
+    at
+}
+
+// Whether every byte is text. There is no early way out, so that many bytes can be looked at at once.
+fn are_text(s: &[u8]) -> bool
+    ensures { λ r. ⌜ r ≡ all isText (now (s .entry)) ⌝ }
+{
+    let mut text = true;
+    let mut i = 0;
+    while i < s.len() {
+        text = text & is_text(s[i]);
+        i += 1;
+    }
+    text
+}
+
+// A place with text alone before it: whole blocks of sixteen bytes are passed over.
+fn after_text(s: &[u8]) -> usize
+    ensures { λ r. ⌜ Passed (inClass Class.NotText) (now (s .entry)) r ⌝ }
+{
+    let mut at = 0;
+    while 16 <= s.len() - at {
+        let end = at + 16;
+        if !are_text(&s[at..end]) {
+            return at;
+        }
+        at = end;
+    }
+    at
+}
+
+// The place of the first byte of the class, byte by byte.
+fn first_among(s: &[u8], c: Class) -> usize
     ensures { λ r. ⌜ FirstOf (inClass c) (now (s .entry)) r ⌝ }
 {
     let mut at = 0;
@@ -78,6 +130,28 @@ pub fn first_in(s: &[u8], c: Class) -> usize
         at += 1;
     }
     at
+}
+
+// The place of the first byte that is not text, or the length.
+fn first_not_text(s: &[u8]) -> usize
+    ensures { λ r. ⌜ FirstOf (inClass Class.NotText) (now (s .entry)) r ⌝ }
+{
+    let at = after_text(s);
+    at + first_among(&s[at..], Class::NotText)
+}
+
+// The place of the first byte of the class, or the length.
+pub fn first_in(s: &[u8], c: Class) -> usize
+    ensures { λ r. ⌜ FirstOf (inClass c) (now (s .entry)) r ⌝ }
+{
+    match c {
+        Class::Is(x) => first_is(s, x),
+        Class::NotText => first_not_text(s),
+        Class::Not(_) => first_among(s, c),
+        Class::Digit => first_among(s, c),
+        Class::Name => first_among(s, c),
+        Class::Text => first_among(s, c),
+    }
 }
 
 // The first place from `from` on that holds a byte of the class, or the length; `from` itself where it is past the end.

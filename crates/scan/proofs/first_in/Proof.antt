@@ -1,29 +1,33 @@
--- `scan::first_in` meets its contract. Invariant: no byte of the class stands before the place. Assumes nothing.
-use Prim.Native.Nat.{_-_}
-use lib.ListN.{length}
+-- `scan::first_in` meets its contract. Assumes nothing.
 use borrow.Author.Needs.{needs}
-use Rattle.scan.specs.Classes.{inClass}
-use Rattle.scan.proofs.Loops.{Seeking, seeking-start, seeking-hit, seeking-more, seeking-end}
 use Rattle.scan.proofs.first_in.Statement.{statement}
 use Rattle.scan.proofs.first_in.Tie as tie
 
-abbrev Inv-loop : tie.InvT-loop
-Inv-loop s c at₀ at = Seeking (inClass c) s at
+returns : tie.Need-returns
+returns c = rw (c .before .before .c .given .1) (c .first-is .ensures)
 
-abbrev μ-loop : tie.MeasureT-loop
-μ-loop s c at₀ at = length s - at
+returns-2 : tie.Need-returns-2
+returns-2 c = rw (c .before .enum-told .given .1) (c .first-not-text .ensures)
 
 pub first-in-spec : {M : Type 1} → statement M
 first-in-spec =
     tie.close
     (tie.spec
-    Inv-loop
-    μ-loop
-    (λ c. search seeking-start)
     (λ c. search needs)
     (λ c κs. search needs)
-    (λ c. search (seeking-hit, needs))
+    (λ c. search needs)
+    (λ c κs. search needs)
+    (λ c. search needs)
+    (λ c κs. search needs)
+    (λ c. search needs)
+    (λ c κs. search needs)
+    (λ c. search needs)
+    (λ c κs. search needs)
+    (λ c. search needs)
+    (λ c κs. search needs)
+    returns
+    returns-2
     (λ c. search needs)
     (λ c. search needs)
-    (λ c. search (seeking-more, needs))
-    (λ c. search (seeking-end, needs)))
+    (λ c. search needs)
+    (λ c. search needs))
