@@ -5,7 +5,8 @@ ghost use mathlib.Core.Path.{_≡_};
 ghost use Prim.Native.Nat.{_<_};
 ghost use lib.ListN.{length};
 ghost use Rattle.scan.specs.Lists.{FirstOf};
-ghost use Rattle.scan.specs.Cut.{is, cut};
+ghost use Rattle.scan.specs.Cut.{is};
+ghost use Rattle.scan.specs.Text.{text};
 ghost use Rattle.digits.specs.Reading.{readNumber};
 ghost use Rattle.tuning.specs.Attributes.{attributeOf};
 ghost use Rattle.tuning.specs.Values.{plain, word, megahertz, tenfold, fraction, hundredths, inBand, frequency, isPid, arePids, pidList, wordOrPids, valueOf};
@@ -78,17 +79,125 @@ fn plain(least: u32, most: u32, s: &[u8]) -> Read
     digits::at_least(least, digits::number(s, Zeros::Allowed, 5, most))
 }
 
-// One of `count` words that have a space between each two: its place, counted from 1.
-fn word(words: &[u8], count: u32, s: &[u8]) -> Read
-    requires { ⌜ count ≡ length (cut 32 (now words)) ⌝ }
-    ensures { λ r. ⌜ r ≡ word (now (words .entry)) (now (s .entry)) ⌝ }
+// The code of a polarisation.
+fn pol_word(s: &[u8]) -> Read
+    ensures { λ r. ⌜ r ≡ word (text "h v l r") (now (s .entry)) ⌝ }
 {
-    let place = scan::place_among(words, s, Case::Counts);
-    if place < count as usize {
-        Read::Value(place as u32 + 1)
-    } else {
-        Read::Nothing
+    if scan::are_alike(b"h", s, Case::Counts) {
+        return Read::Value(1);
     }
+    if scan::are_alike(b"v", s, Case::Counts) {
+        return Read::Value(2);
+    }
+    if scan::are_alike(b"l", s, Case::Counts) {
+        return Read::Value(3);
+    }
+    if scan::are_alike(b"r", s, Case::Counts) {
+        return Read::Value(4);
+    }
+    Read::Nothing
+}
+
+// The code of a system.
+fn msys_word(s: &[u8]) -> Read
+    ensures { λ r. ⌜ r ≡ word (text "dvbs dvbs2") (now (s .entry)) ⌝ }
+{
+    if scan::are_alike(b"dvbs", s, Case::Counts) {
+        return Read::Value(1);
+    }
+    if scan::are_alike(b"dvbs2", s, Case::Counts) {
+        return Read::Value(2);
+    }
+    Read::Nothing
+}
+
+// The code of a modulation.
+fn mtype_word(s: &[u8]) -> Read
+    ensures { λ r. ⌜ r ≡ word (text "qpsk 8psk") (now (s .entry)) ⌝ }
+{
+    if scan::are_alike(b"qpsk", s, Case::Counts) {
+        return Read::Value(1);
+    }
+    if scan::are_alike(b"8psk", s, Case::Counts) {
+        return Read::Value(2);
+    }
+    Read::Nothing
+}
+
+// The code of a word for pilots.
+fn plts_word(s: &[u8]) -> Read
+    ensures { λ r. ⌜ r ≡ word (text "on off") (now (s .entry)) ⌝ }
+{
+    if scan::are_alike(b"on", s, Case::Counts) {
+        return Read::Value(1);
+    }
+    if scan::are_alike(b"off", s, Case::Counts) {
+        return Read::Value(2);
+    }
+    Read::Nothing
+}
+
+// The code of a roll-off.
+fn ro_word(s: &[u8]) -> Read
+    ensures { λ r. ⌜ r ≡ word (text "0.35 0.25 0.20") (now (s .entry)) ⌝ }
+{
+    if scan::are_alike(b"0.35", s, Case::Counts) {
+        return Read::Value(1);
+    }
+    if scan::are_alike(b"0.25", s, Case::Counts) {
+        return Read::Value(2);
+    }
+    if scan::are_alike(b"0.20", s, Case::Counts) {
+        return Read::Value(3);
+    }
+    Read::Nothing
+}
+
+// The code of a code rate.
+fn fec_word(s: &[u8]) -> Read
+    ensures { λ r. ⌜ r ≡ word (text "12 23 34 56 78 89 35 45 910") (now (s .entry)) ⌝ }
+{
+    if scan::are_alike(b"12", s, Case::Counts) {
+        return Read::Value(1);
+    }
+    if scan::are_alike(b"23", s, Case::Counts) {
+        return Read::Value(2);
+    }
+    if scan::are_alike(b"34", s, Case::Counts) {
+        return Read::Value(3);
+    }
+    if scan::are_alike(b"56", s, Case::Counts) {
+        return Read::Value(4);
+    }
+    if scan::are_alike(b"78", s, Case::Counts) {
+        return Read::Value(5);
+    }
+    if scan::are_alike(b"89", s, Case::Counts) {
+        return Read::Value(6);
+    }
+    if scan::are_alike(b"35", s, Case::Counts) {
+        return Read::Value(7);
+    }
+    if scan::are_alike(b"45", s, Case::Counts) {
+        return Read::Value(8);
+    }
+    if scan::are_alike(b"910", s, Case::Counts) {
+        return Read::Value(9);
+    }
+    Read::Nothing
+}
+
+// The code of a word for PIDs.
+fn pids_word(s: &[u8]) -> Read
+    ensures { λ r. ⌜ r ≡ word (text "all none") (now (s .entry)) ⌝ }
+{
+    if scan::are_alike(b"all", s, Case::Counts) {
+        return Read::Value(1);
+    }
+    if scan::are_alike(b"none", s, Case::Counts) {
+        return Read::Value(2);
+    }
+    Read::Nothing
 }
 
 // The five digits of MHz before the dot.
@@ -218,14 +327,14 @@ pub fn value_of(frontends: u8, attribute: usize, s: &[u8]) -> Read
         0 => plain(1, 4, s),
         1 => plain(1, frontends as u32, s),
         2 => frequency(s),
-        3 => word(b"h v l r", 4, s),
-        4 => word(b"dvbs dvbs2", 2, s),
-        5 => word(b"qpsk 8psk", 2, s),
-        6 => word(b"on off", 2, s),
-        7 => word(b"0.35 0.25 0.20", 3, s),
+        3 => pol_word(s),
+        4 => msys_word(s),
+        5 => mtype_word(s),
+        6 => plts_word(s),
+        7 => ro_word(s),
         8 => plain(1000, 45000, s),
-        9 => word(b"12 23 34 56 78 89 35 45 910", 9, s),
-        10 => word_or_pids(word(b"all none", 2, s), s),
+        9 => fec_word(s),
+        10 => word_or_pids(pids_word(s), s),
         11 => pid_list(s),
         12 => pid_list(s),
         _ => Read::Nothing,

@@ -10,8 +10,8 @@ use Rattle.tuning.proofs.value_of.Tie as tie
 returns-11 : tie.Need-returns-11
 unfolding valueOf
 returns-11 c =
-    let s = c .before .before .before .before .before .args .s .now in
-    rw (c .before .before .before .match .keys11) (c .word-or-pids .ensures ∙ ap (λ w. wordOrPids w s) (c .before .word7 .ensures))
+    let s = c .before .before .before .before .args .s .now in
+    rw (c .before .before .match .keys11) (c .word-or-pids .ensures ∙ ap (λ w. wordOrPids w s) (c .before .pids-word .ensures))
 
 -- no attribute of the table
 returns-14 : tie.Need-returns-14
@@ -42,20 +42,13 @@ value-of-spec =
     (λ c κs. search needs)
     (λ c κs. search needs)
     (λ c κs. search needs)
-    (λ c. search needs)
-    (λ c κs. search needs)
-    (λ c. search needs)
-    (λ c κs. search needs)
-    (λ c. search needs)
-    (λ c κs. search needs)
-    (λ c. search needs)
-    (λ c κs. search needs)
-    (λ c. search needs)
     (λ c κs. search needs)
     (λ c κs. search needs)
-    (λ c. search needs)
     (λ c κs. search needs)
-    (λ c. search needs)
+    (λ c κs. search needs)
+    (λ c κs. search needs)
+    (λ c κs. search needs)
+    (λ c κs. search needs)
     (λ c κs. search needs)
     (λ c κs. search needs)
     (λ c κs. search needs)
@@ -63,13 +56,13 @@ value-of-spec =
     (λ c. rw (c .before .match .keys1) (c .plain .ensures))
     (λ c. rw (c .before .match .keys2) (c .plain2 .ensures))
     (λ c. rw (c .before .match .keys3) (c .frequency .ensures))
-    (λ c. rw (c .before .before .match .keys4) (c .word .ensures))
-    (λ c. rw (c .before .before .match .keys5) (c .word2 .ensures))
-    (λ c. rw (c .before .before .match .keys6) (c .word3 .ensures))
-    (λ c. rw (c .before .before .match .keys7) (c .word4 .ensures))
-    (λ c. rw (c .before .before .match .keys8) (c .word5 .ensures))
+    (λ c. rw (c .before .match .keys4) (c .pol-word .ensures))
+    (λ c. rw (c .before .match .keys5) (c .msys-word .ensures))
+    (λ c. rw (c .before .match .keys6) (c .mtype-word .ensures))
+    (λ c. rw (c .before .match .keys7) (c .plts-word .ensures))
+    (λ c. rw (c .before .match .keys8) (c .ro-word .ensures))
     (λ c. rw (c .before .match .keys9) (c .plain3 .ensures))
-    (λ c. rw (c .before .before .match .keys10) (c .word6 .ensures))
+    (λ c. rw (c .before .match .keys10) (c .fec-word .ensures))
     returns-11
     (λ c. rw (c .before .match .keys12) (c .pid-list .ensures))
     (λ c. rw (c .before .match .keys13) (c .pid-list2 .ensures))
