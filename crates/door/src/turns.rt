@@ -64,11 +64,11 @@ pub(crate) fn request(
 {
     let r = satbox::request(t, request, clock, address, draw, answer, journal);
     let outcome = r.outcome;
-    let u = r.satbox;
     let reply = Reply {
         refusal: number_in(outcome),
         count: r.count,
     };
+    let u = r.satbox;
     Replying { reply, satbox: u }
 }
 
@@ -116,11 +116,11 @@ pub(crate) fn collect(t: SatBox, journal: &[u8], buffer: &mut [u8]) -> Replying
 {
     let collected = satbox::collect(t, journal, buffer);
     let outcome = collected.outcome;
-    let u = collected.satbox;
     let reply = Reply {
         refusal: number_in(outcome),
         count: collected.count,
     };
+    let u = collected.satbox;
     Replying { reply, satbox: u }
 }
 

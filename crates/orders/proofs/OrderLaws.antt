@@ -1,6 +1,6 @@
 -- Frontend orders by the ways they end. Assumes nothing.
-use mathlib.Core.Path.{_≡_, _∙_, ap}
-use mathlib.Core.Bool.{true, false, _||_, and-false}
+use mathlib.Core.Path.{_≡_, refl, sym, _∙_, ap}
+use mathlib.Core.Bool.{Bool, true, false, cond, _||_, and-false}
 use Prim.Native.Nat.{ℕ, suc, _+_, _<_}
 use native.Mathlib.Omega.{arith}
 use lib.Dec.{eqb, ltb}
@@ -13,9 +13,11 @@ use Rattle.stream.specs.Streams.{pastStream}
 use Rattle.stream.specs.Values.{areComplete}
 use Rattle.table.specs.Counts.{any}
 use Rattle.table.specs.Table.{streamOf}
+use Rattle.table.specs.Formed.{wellFormed}
 use Rattle.table.specs.declared.SatBox.{SatBox}
-use Rattle.orders.specs.Orders.{isFed, playsAsOwner, off, orderAt, orderFor}
-use Rattle.orders.specs.declared.Ordered.the-variants.{On, Off}
+use Rattle.orders.specs.Orders.{isFed, playsAsOwner, off, orderAt, orderFor, verdictOf, orderOf}
+use Rattle.orders.specs.declared.Ordered.the-variants.{On, Off, Refused}
+use Rattle.table.specs.declared.Refusal.the-variants.{Table, Frontend}
 use Rattle.orders.specs.declared.Order.{Order}
 
 next : (i : ℕ) → i + 1 ≡ suc i
@@ -37,14 +39,14 @@ module _ (t : SatBox) (i : ℕ) where
   unfolding orderAt
   order-unplayed e = rw e
 
+  stands : streamOf t (i + 1) ≡ getD (t .streams) i pastStream
+  stands = ap (streamOf t) (next i)
+
+  pub order-lacking : areComplete (getD (t .streams) i pastStream .values) ≡ false → off Off ≡ orderAt t (i + 1)
+  unfolding orderAt
+  order-lacking n = rw (ap (λ m. areComplete (m .values)) stands ∙ n, and-false)
+
   module _ (e : any (playsAsOwner (i + 1)) (t .sessions) ≡ true) where
-    stands : streamOf t (i + 1) ≡ getD (t .streams) i pastStream
-    stands = ap (streamOf t) (next i)
-
-    pub order-incomplete : areComplete (getD (t .streams) i pastStream .values) ≡ false → off Off ≡ orderAt t (i + 1)
-    unfolding orderAt
-    order-incomplete n = rw (e, ap (λ m. areComplete (m .values)) stands ∙ n)
-
     pub order-complete : areComplete (getD (t .streams) i pastStream .values) ≡ true → record { stream = getD (t .streams) i pastStream; outcome = On } ≡ orderAt t (i + 1)
     unfolding orderAt
     order-complete y = rw (e, ap (λ m. areComplete (m .values)) stands ∙ y, stands)
@@ -63,3 +65,35 @@ a-frontend frontends n e =
     let q = or-neither (eqb n 0) (ltb frontends n) e in
     let z = eqb-false n 0 (q .0) in
     rw (le-leb 1 n (omega arith), le-leb n frontends (ltb-false frontends n (q .1)))
+
+-- which refuses
+abbrev placed : Bool → Bool → ℕ
+placed a b = cond a (cond b 0 2) 1
+
+first-of : (a b : Bool) (x y z : Order) → placed a b ≡ 1 → z ≡ cond a (cond b x y) z
+first-of true true x y z e = absurd (omega arith)
+first-of true false x y z e = absurd (omega arith)
+first-of false b x y z e = refl
+
+second-of : (a b : Bool) (x y z : Order) → placed a b ≡ 2 → y ≡ cond a (cond b x y) z
+second-of true true x y z e = absurd (omega arith)
+second-of true false x y z e = refl
+second-of false b x y z e = absurd (omega arith)
+
+neither-of : (a b : Bool) (x y z : Order) → (placed a b ≡ 1 → ⊥) → (placed a b ≡ 2 → ⊥) → x ≡ cond a (cond b x y) z
+neither-of true true x y z e f = refl
+neither-of true false x y z e f = absurd (f refl)
+neither-of false b x y z e f = absurd (e refl)
+
+module _ (t : SatBox) (n : ℕ) {v : ℕ} (w : v ≡ verdictOf t n) where
+  pub verdict-table : v ≡ 1 → off (Refused Table) ≡ orderOf t n
+  unfolding verdictOf orderOf
+  verdict-table e = first-of (wellFormed t) (isBetween 1 (t .frontends) n) (orderFor t n) (off (Refused Frontend)) (off (Refused Table)) (sym w ∙ e)
+
+  pub verdict-frontend : v ≡ 2 → off (Refused Frontend) ≡ orderOf t n
+  unfolding verdictOf orderOf
+  verdict-frontend e = second-of (wellFormed t) (isBetween 1 (t .frontends) n) (orderFor t n) (off (Refused Frontend)) (off (Refused Table)) (sym w ∙ e)
+
+  pub verdict-none : (v ≡ 1 → ⊥) → (v ≡ 2 → ⊥) → orderFor t n ≡ orderOf t n
+  unfolding verdictOf orderOf
+  verdict-none e f = neither-of (wellFormed t) (isBetween 1 (t .frontends) n) (orderFor t n) (off (Refused Frontend)) (off (Refused Table)) (λ z. e (w ∙ z)) (λ z. f (w ∙ z))

@@ -42,6 +42,10 @@ unfoldable pub orderFor : SatBox → ℕ → Order
 orderFor t n =
     cond (ltb (first (isFed n) (t .streams)) (length (t .streams))) (orderAt t (suc (first (isFed n) (t .streams)))) (off Off)
 
+-- which of them refuses, by its place there
+unfoldable pub verdictOf : SatBox → ℕ → ℕ
+verdictOf t n = cond (wellFormed t) (cond (isBetween 1 (t .frontends) n) 0 2) 1
+
 -- 1: "the table is not well formed"; 5: "frontend number is 0 or above F"
 unfoldable pub orderOf : SatBox → ℕ → Order
 orderOf t n =

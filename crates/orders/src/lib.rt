@@ -1,10 +1,8 @@
 // What a frontend is to be set to: off, or the values and PIDs of the stream that holds it.
 ghost use mathlib.Core.Path.{_≡_};
-ghost use Prim.Native.Nat.{_+_, _<_};
 ghost use lib.Dec.{eqb};
 ghost use Rattle.scan.specs.Lists.{FirstOf};
-ghost use Rattle.table.specs.Counts.{any};
-ghost use Rattle.orders.specs.Orders.{isFed, playsAsOwner, orderAt, orderFor, orderOf};
+ghost use Rattle.orders.specs.Orders.{isFed, playsAsOwner, orderFor, verdictOf, orderOf};
 use stream::Stream;
 use table::Refusal;
 use table::SatBox;
@@ -57,39 +55,7 @@ fn plays_as_owner(s: Session, id: u8) -> bool
     ((!(s.number == 0) & (s.stream == id)) & !(s.owner == 0)) & !(s.playing == 0)
 }
 
-// Whether a stream's owner plays.
-fn is_played(t: SatBox, id: u8) -> bool
-    ensures { λ r. ⌜ r ≡ any (playsAsOwner id) (t .sessions) ⌝ }
-{
-    let mut i = 0;
-    while i < SatBox::SESSIONS {
-        if plays_as_owner(t.sessions[i], id) {
-            return true;
-        }
-        i += 1;
-    }
-    false
-}
-
-// The order for the frontend that the stream at a place holds.
-fn order_at(t: SatBox, i: usize) -> Order
-    requires { ⌜ i < 8 ⌝ }
-    ensures { λ r. ⌜ r ≡ orderAt t (i + 1) ⌝ }
-{
-    if !is_played(t, (i + 1) as u8) {
-        return off(Ordered::Off);
-    }
-    let m = t.streams[i];
-    if !stream::are_complete(m.values) {
-        return off(Ordered::Off);
-    }
-    Order {
-        stream: m,
-        outcome: Ordered::On,
-    }
-}
-
-// The order for one of the box's frontends.
+// The order for one of the box's frontends: its stream, where the values are all there and its owner plays.
 fn order_for(t: SatBox, n: u32) -> Order
     ensures { λ r. ⌜ r ≡ orderFor t n ⌝ }
 {
@@ -97,17 +63,47 @@ fn order_for(t: SatBox, n: u32) -> Order
     if i == SatBox::STREAMS {
         return off(Ordered::Off);
     }
-    order_at(t, i)
+    let m = t.streams[i];
+    if !stream::are_complete(m.values) {
+        return off(Ordered::Off);
+    }
+    let id = (i + 1) as u8;
+    let mut k = 0;
+    while k < SatBox::SESSIONS {
+        if plays_as_owner(t.sessions[k], id) {
+            return Order {
+                stream: m,
+                outcome: Ordered::On,
+            };
+        }
+        k += 1;
+    }
+    off(Ordered::Off)
+}
+
+// Which refuses: 1 the table, 2 the frontend, 0 neither. It has the table for itself, so that this copy of it is gone before the order is
+// looked for.
+fn judged(t: SatBox, n: u32) -> u32
+    ensures { λ r. ⌜ r ≡ verdictOf t n ⌝ }
+{
+    if !table::is_well_formed(t) {
+        return 1;
+    }
+    if (n == 0) | ((t.frontends as u32) < n) {
+        return 2;
+    }
+    0
 }
 
 // The order for a frontend; they count from 1.
 pub fn frontend_order(t: SatBox, n: u32) -> Order
     ensures { λ r. ⌜ r ≡ orderOf t n ⌝ }
 {
-    if !table::is_well_formed(t) {
+    let verdict = judged(t, n);
+    if verdict == 1 {
         return off(Ordered::Refused(Refusal::Table));
     }
-    if (n == 0) | ((t.frontends as u32) < n) {
+    if verdict == 2 {
         return off(Ordered::Refused(Refusal::Frontend));
     }
     order_for(t, n)

@@ -1,23 +1,35 @@
 -- The calls by the ways they end: each refusal, and done. Assumes nothing.
-use mathlib.Core.Path.{_≡_, _∙_, ap, subst}
-use mathlib.Core.Bool.{true, false}
-use mathlib.Core.List.{List}
-use Prim.Native.Nat.{ℕ, _-_, _≤_, _<_}
+use mathlib.Core.Path.{_≡_, refl, sym, _∙_, ap, subst}
+use mathlib.Core.Bool.{Bool, true, false, not}
+use mathlib.Core.List.{List, _++_}
+use Prim.Native.Nat.{ℕ, _-_, _≤_, max}
 use native.Mathlib.Omega.{arith}
-use lib.ListN.{length, take, length-take}
-use borrow.Author.Tests.{eq-eqb, ne-eqb, lt-ltb, le-ltb}
+use lib.Dec.{eqb, ltb}
+use lib.ListN.{length, take, drop, length-take}
+use borrow.Author.Tests.{eqb-true, ltb-false, not-true}
 use Rattle.scan.specs.Lists.{part}
-use Rattle.digits.specs.Wrote.{Wrote}
+use Rattle.scan.proofs.Bools.{never}
+use Rattle.digits.specs.Wrote.{Wrote, written}
 use Rattle.digits.proofs.Writes.{wrote-front, wrote-as}
+use Rattle.table.specs.Counts.{any}
 use Rattle.table.specs.Formed.{wellFormed}
 use Rattle.table.specs.declared.SatBox.{SatBox}
+use Rattle.table.specs.declared.Refusal.{Refusal}
 use Rattle.table.specs.declared.Refusal.the-variants.{Table, Journal, Buffer}
+use Rattle.table.specs.declared.Outcome.{Outcome}
 use Rattle.table.specs.declared.Outcome.the-variants.{Done, Refused}
 use Rattle.table.proofs.Rules.{formed}
-use Rattle.satbox.specs.Does.{Does}
-use Rattle.satbox.specs.Closing.{swept, atClock}
-use Rattle.satbox.specs.Calls.{ticked, tickedJournal, emptied, uncollected, collected, collectedInto}
-use Rattle.satbox.proofs.Keeping.{Whole, clock-whole}
+use Rattle.satbox.specs.Does.{Does, Roomy}
+use Rattle.satbox.specs.Did.{bytesOf}
+use Rattle.satbox.specs.Closing.{isExpired, swept, sweeping, atClock}
+use Rattle.satbox.specs.DueAt.{closingDue, agedAt}
+use Rattle.satbox.specs.declared.closing.Due.{Due}
+use Rattle.satbox.specs.Calls.{_else_andThen_, ifDone, tickOutcome, ticked, tickedJournal, emptied, collectOutcome, collected, collectedInto}
+use Rattle.satbox.specs.declared.Ticked.{Ticked}
+use Rattle.satbox.specs.declared.Collected.{Collected}
+use Rattle.satbox.proofs.DoesLaws.{does-as}
+use Rattle.satbox.proofs.Dues.{swept-aged, aged-range, does-idle}
+use Rattle.satbox.proofs.Keeping.{Whole, whole-roomy, clock-whole}
 use Rattle.satbox.proofs.Kept.{whole-formed}
 
 -- a well-formed table of the code is whole, at any later clock too
@@ -27,51 +39,93 @@ formed-whole t e a b = record { formed = formed t e; places = a; rows = b }
 pub clock-formed : {t u : SatBox} (clock : ℕ) → u ≡ atClock clock t → Whole t → wellFormed u ≡ true
 clock-formed {t} clock e w = rw e (whole-formed (atClock clock t) (clock-whole clock t w))
 
+-- the table at the clock used, and swept there
+pub clock-set : (t : SatBox) (clock n : ℕ) → n ≡ max (t .clock) clock
+    → record { sessions = t .sessions; streams = t .streams; size = t .size; held = t .held; clock = n; sequence = t .sequence; frontends = t .frontends } ≡ atClock clock t
+unfolding atClock
+clock-set t clock n e = rw e
+
+pub aged-swept : {t u r : SatBox} {j k : List ℕ} {due : Due} (clock : ℕ) → Whole t → u ≡ atClock clock t → due ≡ agedAt (u .clock) → Does u j (closingDue due u) r k → Does (atClock clock t) j (sweeping clock t) r k
+aged-swept {t} {u} {r} {j} {k} clock w e f p =
+    let q = does-as (ap (λ d. closingDue d u) f ∙ swept-aged u (subst Roomy (sym e) (whole-roomy (atClock clock t) (clock-whole clock t w)))) p in
+    subst (λ x. Does x j (swept x) r k) e q
+
+pub idle-swept : {u : SatBox} {j : List ℕ} {b : Bool} (t : SatBox) (clock : ℕ) → u ≡ atClock clock t → b ≡ any (isExpired (u .clock)) (u .sessions) → b ≡ false → Does (atClock clock t) j (sweeping clock t) u j
+idle-swept {u} {j} t clock e f n = subst (λ x. Does x j (swept x) u j) e (does-idle (sym f ∙ n))
+
+-- a closing's range
+pub aged-asked : {due : Due} (u : SatBox) → wellFormed u ≡ true → due ≡ agedAt (u .clock) → (wellFormed u ≡ true) × (due .first ≤ due .end) × (due .end ≤ 32)
+aged-asked u w e = let r = aged-range (u .clock) in (w, rw e (r .0), rw e (r .1))
+
 pub formed-held : (t : SatBox) → wellFormed t ≡ true → t .held ≤ t .size
 formed-held t e = omega (arith, formed t e .fits .bound)
 
+-- THE TESTS of a call in their order: it is done where each holds
+pub done-first : (a : Bool) (r : Refusal) (o : Outcome) → ifDone (a else r andThen o) true false ≡ true → (a ≡ true) × (ifDone o true false ≡ true)
+done-first true r o e = (refl, e)
+done-first false r o e = never e refl
+
 -- TICK
 module _ (clock : ℕ) (t : SatBox) (j : List ℕ) where
-  pub tick-formed : wellFormed t ≡ false → (record { satbox = t; outcome = Refused Table } ≡ ticked clock t j) × (j ≡ tickedJournal clock t j)
+  abbrev tickedAs : Outcome → SatBox → Ticked
+  tickedAs o r = record { satbox = r; outcome = o }
+
+  tick-by : (o : Outcome) {r : SatBox} {k : List ℕ} → (ifDone o true false ≡ true → Does (atClock clock t) j (sweeping clock t) r k) → (ifDone o true false ≡ false → (r ≡ t) × (k ≡ j))
+      → (tickedAs o r ≡ tickedAs o (ifDone o (sweeping clock t .satbox) t)) × (k ≡ ifDone o (written j (t .held) (bytesOf (sweeping clock t .records))) j)
+  unfolding atClock
+  tick-by Done p q = let d = p refl in (rw (d .satbox), d .journal)
+  tick-by (Refused x) p q = let d = q refl in (rw (d .0), d .1)
+
+  pub tick-ends : {o : Outcome} {r : SatBox} {k : List ℕ} → o ≡ tickOutcome t j → (ifDone o true false ≡ true → Does (atClock clock t) j (sweeping clock t) r k)
+      → (ifDone o true false ≡ false → (r ≡ t) × (k ≡ j)) → (record { satbox = r; outcome = o } ≡ ticked clock t j) × (k ≡ tickedJournal clock t j)
   unfolding ticked tickedJournal
-  tick-formed e = (rw e, rw e)
+  tick-ends {o} e p q = let z = tick-by o p q in (z .0 ∙ rw e, z .1 ∙ rw e)
 
-  module _ (f : wellFormed t ≡ true) where
-    pub tick-journal : (length j ≡ t .size → ⊥) → (record { satbox = t; outcome = Refused Journal } ≡ ticked clock t j) × (j ≡ tickedJournal clock t j)
-    unfolding ticked tickedJournal
-    tick-journal h = let n = ne-eqb (length j) (t .size) h in (rw (f, n), rw (f, n))
-
-    pub tick-done : {u r : SatBox} {k : List ℕ} → length j ≡ t .size → u ≡ atClock clock t → Does u j (swept u) r k → (record { satbox = r; outcome = Done } ≡ ticked clock t j) × (k ≡ tickedJournal clock t j)
-    unfolding ticked tickedJournal atClock
-    tick-done {u} {r} {k} h e p =
-        let y = eq-eqb (length j) (t .size) h in
-        let q = subst (λ x. Does x j (swept x) r k) e p in
-        (rw (f, y, q .satbox), rw (f, y, q .journal))
+  pub tick-found : {o : Outcome} → o ≡ tickOutcome t j → ifDone o true false ≡ true → wellFormed t ≡ true
+  tick-found e h = done-first (wellFormed t) Table (eqb (length j) (t .size) else Journal andThen Done) (sym (ap (λ x. ifDone x true false) e) ∙ h) .0
 
 -- COLLECT
 module _ (t : SatBox) (j b : List ℕ) where
-  pub collect-formed : wellFormed t ≡ false → (uncollected t Table ≡ collected t j b) × (b ≡ collectedInto t j b)
+  abbrev left : ℕ → SatBox
+  left n = record { sessions = t .sessions; streams = t .streams; size = t .size; held = n; clock = t .clock; sequence = t .sequence; frontends = t .frontends }
+
+  abbrev collectedAs : Outcome → SatBox → ℕ → Collected
+  collectedAs o r n = record { satbox = r; outcome = o; count = n }
+
+  collect-by : (o : Outcome) {d : List ℕ} {next : ℕ} → (ifDone o true false ≡ true → (t .held ≤ length b) × (t .held ≤ length j)) → Wrote b 0 (part 0 (ifDone o (t .held) 0) j) d next
+      → (collectedAs o (left (ifDone o 0 (t .held))) (ifDone o (t .held) 0) ≡ collectedAs o (ifDone o (emptied t) t) (ifDone o (t .held) 0))
+      × (d ≡ ifDone o (take (t .held) j ++ drop (t .held) b) b)
+  unfolding emptied
+  collect-by Done p w =
+      let h = p refl in
+      let n : length (take (t .held) j) ≡ t .held = length-take (t .held) j ∙ omega (arith, h .1) in
+      let m : t .held - 0 ≡ t .held = omega arith in
+      (refl, wrote-front (wrote-as (ap (λ x. take x j) m) w) (omega (arith, h .0)) .0 ∙ rw n)
+  collect-by (Refused x) p w = (refl, wrote-front w (omega arith) .0)
+
+  pub collect-ends : {o : Outcome} {d : List ℕ} {n m next : ℕ} → o ≡ collectOutcome t j b → n ≡ ifDone o (t .held) 0 → m ≡ ifDone o 0 (t .held)
+      → (ifDone o true false ≡ true → (t .held ≤ length b) × (t .held ≤ length j)) → Wrote b 0 (part 0 n j) d next
+      → (record { satbox = left m; outcome = o; count = n } ≡ collected t j b) × (d ≡ collectedInto t j b)
   unfolding collected collectedInto
-  collect-formed e = (rw e, rw e)
+  collect-ends {o} {d} {n} {m} {next} e f g h w =
+      let z = collect-by o h (subst (λ x. Wrote b 0 (part 0 x j) d next) f w) in
+      let y : collectedAs o (left m) n ≡ collectedAs o (ifDone o (emptied t) t) (ifDone o (t .held) 0) = rw (f, g) (z .0) in
+      (y ∙ rw e, z .1 ∙ rw e)
 
-  module _ (f : wellFormed t ≡ true) where
-    pub collect-journal : (length j ≡ t .size → ⊥) → (uncollected t Journal ≡ collected t j b) × (b ≡ collectedInto t j b)
-    unfolding collected collectedInto
-    collect-journal h = let n = ne-eqb (length j) (t .size) h in (rw (f, n), rw (f, n))
+  -- what a collecting that is done found
+  pub collect-found : {o : Outcome} → o ≡ collectOutcome t j b → ifDone o true false ≡ true → (t .held ≤ length b) × (t .held ≤ length j)
+  collect-found {o} e h =
+      let c0 = not (ltb (length b) (t .held)) else Buffer andThen Done in
+      let b0 = eqb (length j) (t .size) else Journal andThen c0 in
+      let a = done-first (wellFormed t) Table b0 (sym (ap (λ x. ifDone x true false) e) ∙ h) in
+      let c = done-first (eqb (length j) (t .size)) Journal c0 (a .1) in
+      let d = done-first (not (ltb (length b) (t .held))) Buffer Done (c .1) in
+      (omega (arith, ltb-false (length b) (t .held) (not-true (ltb (length b) (t .held)) (d .0))), omega (arith, formed-held t (a .0), eqb-true (length j) (t .size) (c .0)))
 
-    module _ (h : length j ≡ t .size) where
-      pub collect-buffer : length b < t .held → (uncollected t Buffer ≡ collected t j b) × (b ≡ collectedInto t j b)
-      unfolding collected collectedInto
-      collect-buffer s =
-          let y = eq-eqb (length j) (t .size) h in
-          let z = lt-ltb (length b) (t .held) s in
-          (rw (f, y, z), rw (f, y, z))
+  -- no more is copied than there is
+  most-by : (o : Outcome) → (ifDone o true false ≡ true → (t .held ≤ length b) × (t .held ≤ length j)) → ifDone o (t .held) 0 ≤ length j
+  most-by Done h = h refl .1
+  most-by (Refused x) h = omega arith
 
-      pub collect-done : {u : SatBox} {d : List ℕ} {next : ℕ} → t .held ≤ length b → u ≡ emptied t → Wrote b 0 (part 0 (t .held) j) d next → (record { satbox = u; outcome = Done; count = t .held } ≡ collected t j b) × (d ≡ collectedInto t j b)
-      unfolding collected collectedInto
-      collect-done s e w =
-          let y = eq-eqb (length j) (t .size) h in
-          let z = le-ltb (length b) (t .held) s in
-          let n : length (take (t .held) j) ≡ t .held = length-take (t .held) j ∙ omega (arith, formed-held t f) in
-          let m : t .held - 0 ≡ t .held = omega arith in
-          (rw (f, y, z, e), rw (f, y, z) (wrote-front (wrote-as (ap (λ x. take x j) m) w) (omega arith) .0 ∙ rw n))
+  pub collect-most : {o : Outcome} {n : ℕ} → o ≡ collectOutcome t j b → n ≡ ifDone o (t .held) 0 → n ≤ length j
+  collect-most {o} e f = let z = most-by o (collect-found e) in omega (arith, z)

@@ -4,11 +4,11 @@ use mathlib.Core.Bool.{true, false, not, _&&_}
 use mathlib.Core.List.{List, _++_}
 use Prim.Native.Nat.{ℕ, _≤_, _<_}
 use native.Mathlib.Omega.{arith}
-use lib.Dec.{eqb}
+use lib.Dec.{eqb, ltb}
 use lib.ListN.{length, drop}
-use borrow.Author.Tests.{eq-eqb, ne-eqb, lt-ltb, le-ltb}
+use borrow.Author.Tests.{ltb-false, not-true}
 use Rattle.scan.proofs.Bools.{cond-keeps}
-use Rattle.digits.specs.Wrote.{Wrote}
+use Rattle.digits.specs.Wrote.{Wrote, written}
 use Rattle.digits.proofs.Writes.{wrote-front, wrote-as}
 use Rattle.aim.specs.Refusals as reading
 use Rattle.aim.specs.declared.Method.{Method}
@@ -22,7 +22,8 @@ use Rattle.table.specs.Formed.{wellFormed}
 use Rattle.table.specs.declared.Session.{Session}
 use Rattle.table.specs.declared.SatBox.{SatBox}
 use Rattle.table.specs.declared.Refusal.the-variants as refusal
-use Rattle.table.specs.declared.Outcome.the-variants.{Done}
+use Rattle.table.specs.declared.Outcome.{Outcome}
+use Rattle.table.specs.declared.Outcome.the-variants.{Done, Refused}
 use Rattle.steps.specs.Asked.{Asked, Lists, askedOf, listsOf}
 use Rattle.steps.specs.Cases.{isPassed}
 use Rattle.steps.specs.Sights.{sightOf}
@@ -33,11 +34,15 @@ use Rattle.steps.proofs.ReplyLaws.{Follows, follows-passed, follows-refused, is
 use Rattle.satbox.specs.Does.{Does}
 use Rattle.satbox.specs.Closing.{swept, sweeping, atClock}
 use Rattle.satbox.specs.Serving.{Serving, merging, merges, isClash, isTooMany, opens, canSeat, changeCase, caseOf, denied, grant, served}
-use Rattle.satbox.specs.Branches.{performed, TurnIs}
-use Rattle.satbox.specs.Requests.{clientOf, answered, requested, answerOf, replied, repliedInto, repliedJournal, unanswered, Responds}
+use Rattle.satbox.specs.Did.{bytesOf}
+use Rattle.satbox.specs.Calls.{_else_andThen_, ifDone}
+use Rattle.satbox.specs.Branches.{performed, TurnIs, Responds}
+use Rattle.satbox.specs.Requests.{clientOf, answered, requestOutcome, requested, answerOf, replied, repliedInto, repliedJournal}
 use Rattle.satbox.specs.declared.opening.Client.{Client}
 use Rattle.satbox.specs.declared.serving.Turn.{Turn}
 use Rattle.satbox.specs.declared.Replied.{Replied}
+use Rattle.satbox.specs.declared.Response.{Response}
+use Rattle.satbox.proofs.CallLaws.{done-first}
 use Rattle.satbox.proofs.DoesLaws.{does-then}
 use Rattle.satbox.proofs.Closings.{swept-fine}
 use Rattle.satbox.proofs.Keeping.{Whole, whole-roomy, clock-whole}
@@ -113,15 +118,10 @@ module _ (s : List ℕ) (address draw : ℕ) (t : SatBox) (r : Request) (i : Req
     pub answer-count : n < 4294967296
     answer-count = omega (arith, answer-front .1, answer-short)
 
-    pub answer-done : {u : SatBox} {j k : List ℕ} → Does t j (performed v t) u k → Responds s address draw t b j (record { satbox = u; outcome = Done; count = n }) d k
-    answer-done q =
-        let c = answer-front .1 in
-        record { does = rw (← p .did) q; outcome = refl; count = c; buffer = rw c (answer-front .0) }
+    pub answer-done : Responds s address draw t b (record { turn = v; count = n }) d
+    answer-done = let c = answer-front .1 in record { turn = p; count = c; buffer = rw c (answer-front .0) }
 
 -- THE CALL
-replied-as : {x : Replied} {t : SatBox} {n : ℕ} → x .satbox ≡ t → x .outcome ≡ Done → x .count ≡ n → x ≡ record { satbox = t; outcome = Done; count = n }
-replied-as p q r = rw (← p, ← q, ← r)
-
 -- what is answered is answered on a well-formed table
 pub swept-formed : {t u v : SatBox} {j k : List ℕ} (clock : ℕ) → Whole t → u ≡ atClock clock t → Does u j (swept u) v k → wellFormed v ≡ true
 swept-formed {t} {u} {v} {j} {k} clock w e p =
@@ -136,33 +136,47 @@ module _ (s : List ℕ) (clock address draw : ℕ) (t : SatBox) (b j : List ℕ)
       × (d ≡ repliedInto s clock address draw t b j)
       × (k ≡ repliedJournal s clock address draw t b j)
 
-  pub request-formed : {x : Replied} → wellFormed t ≡ false → x ≡ unanswered t refusal.Table → Replies x b j
+  -- what a request that is done leaves
+  abbrev pub Answered : SatBox → ℕ → List ℕ → List ℕ → Type 0
+  Answered r n d l =
+      ((r ≡ requested s clock address draw t .did .satbox) × (n ≡ length (answerOf s clock address draw t)))
+      × ((d ≡ answerOf s clock address draw t ++ drop (length (answerOf s clock address draw t)) b)
+      × (l ≡ written j (t .held) (bytesOf (requested s clock address draw t .did .records))))
+
+  pub request-done : {u v r : SatBox} {x : Response} {d k l : List ℕ} → Whole t → u ≡ atClock clock t → Does u j (swept u) v k
+      → Responds s address draw v b x d → Does v k (performed (x .turn) v) r l → Answered r (x .count) d l
+  unfolding requested answerOf atClock
+  request-done {u} {v} {r} {x} {d} {k} {l} w e p a o =
+      let q = subst (λ m. Does m j (swept m) v k) e p in
+      let fine = swept-fine (atClock clock t) (whole-roomy (atClock clock t) (clock-whole clock t w)) in
+      let does = does-then (λ m. answered s address draw m .did) q (subst (λ z. Does v k z r l) (a .turn .did) o) fine in
+      let c = a .count ∙ ap (λ m. length (answerTo s address draw m)) (q .satbox) in
+      let front : d ≡ answerTo s address draw v ++ drop (length (answerTo s address draw v)) b = rw (a .count) at (a .buffer) in
+      let buffer = front ∙ ap (λ m. answerTo s address draw m ++ drop (length (answerTo s address draw m)) b) (q .satbox) in
+      ((does .satbox, c), (buffer, does .journal))
+
+  abbrev repliedAs : Outcome → SatBox → ℕ → Replied
+  repliedAs o r n = record { satbox = r; outcome = o; count = n }
+
+  request-by : (o : Outcome) {r : SatBox} {n : ℕ} {d l : List ℕ} → (ifDone o true false ≡ true → Answered r n d l)
+      → (ifDone o true false ≡ false → ((r ≡ t) × (n ≡ 0)) × ((d ≡ b) × (l ≡ j)))
+      → (repliedAs o r n ≡ repliedAs o (ifDone o (requested s clock address draw t .did .satbox) t) (ifDone o (length (answerOf s clock address draw t)) 0))
+      × ((d ≡ ifDone o (answerOf s clock address draw t ++ drop (length (answerOf s clock address draw t)) b) b)
+      × (l ≡ ifDone o (written j (t .held) (bytesOf (requested s clock address draw t .did .records))) j))
+  request-by Done p q = let z = p refl in (rw (z .0 .0, z .0 .1), z .1)
+  request-by (Refused x) p q = let z = q refl in (rw (z .0 .0, z .0 .1), z .1)
+
+  pub request-ends : {o : Outcome} {r : SatBox} {n : ℕ} {d l : List ℕ} → o ≡ requestOutcome t j b → (ifDone o true false ≡ true → Answered r n d l)
+      → (ifDone o true false ≡ false → ((r ≡ t) × (n ≡ 0)) × ((d ≡ b) × (l ≡ j))) → Replies (record { satbox = r; outcome = o; count = n }) d l
   unfolding replied repliedInto repliedJournal
-  request-formed f e = (e ∙ rw f, rw f, rw f)
+  request-ends {o} e p q = let z = request-by o p q in (z .0 ∙ rw e, z .1 .0 ∙ rw e, z .1 .1 ∙ rw e)
 
-  module _ (f : wellFormed t ≡ true) where
-    pub request-journal : {x : Replied} → (length j ≡ t .size → ⊥) → x ≡ unanswered t refusal.Journal → Replies x b j
-    unfolding replied repliedInto repliedJournal
-    request-journal h e = let n = ne-eqb (length j) (t .size) h in (e ∙ rw (f, n), rw (f, n), rw (f, n))
-
-    module _ (h : length j ≡ t .size) where
-      pub request-answer : {x : Replied} → length b < 4096 → x ≡ unanswered t refusal.Answer → Replies x b j
-      unfolding replied repliedInto repliedJournal
-      request-answer g e =
-          let y = eq-eqb (length j) (t .size) h in
-          let z = lt-ltb (length b) 4096 g in
-          (e ∙ rw (f, y, z), rw (f, y, z), rw (f, y, z))
-
-      pub request-done : {u v : SatBox} {x : Replied} {d k l : List ℕ} → 4096 ≤ length b → Whole t → u ≡ atClock clock t
-          → Does u j (swept u) v k → Responds s address draw v b k x d l → Replies x d l
-      unfolding replied repliedInto repliedJournal requested answerOf atClock
-      request-done {u} {v} {x} {d} {k} {l} g w e p r =
-          let y = eq-eqb (length j) (t .size) h in
-          let z = le-ltb (length b) 4096 g in
-          let q = subst (λ m. Does m j (swept m) v k) e p in
-          let fine = swept-fine (atClock clock t) (whole-roomy (atClock clock t) (clock-whole clock t w)) in
-          let does = does-then (λ m. answered s address draw m .did) q (r .does) fine in
-          let c = r .count ∙ ap (λ m. length (answerTo s address draw m)) (q .satbox) in
-          let front : d ≡ answerTo s address draw v ++ drop (length (answerTo s address draw v)) b = rw (r .count) at (r .buffer) in
-          let buffer = front ∙ ap (λ m. answerTo s address draw m ++ drop (length (answerTo s address draw m)) b) (q .satbox) in
-          (rw (f, y, z) (replied-as (does .satbox) (r .outcome) c), rw (f, y, z) buffer, rw (f, y, z) (does .journal))
+  -- what a request that is done found
+  pub request-found : {o : Outcome} → o ≡ requestOutcome t j b → ifDone o true false ≡ true → (wellFormed t ≡ true) × (4096 ≤ length b)
+  request-found {o} e h =
+      let c0 = not (ltb (length b) 4096) else refusal.Answer andThen Done in
+      let b0 = eqb (length j) (t .size) else refusal.Journal andThen c0 in
+      let a = done-first (wellFormed t) refusal.Table b0 (sym (ap (λ x. ifDone x true false) e) ∙ h) in
+      let c = done-first (eqb (length j) (t .size)) refusal.Journal c0 (a .1) in
+      let d = done-first (not (ltb (length b) 4096)) refusal.Answer Done (c .1) in
+      (a .0, omega (arith, ltb-false (length b) 4096 (not-true (ltb (length b) 4096) (d .0))))

@@ -3,9 +3,9 @@
 use Prim.Native.Nat.{ℕ, _+_, _≤_, _<_}
 use mathlib.Core.Path.{_≡_}
 use mathlib.Core.Bool.{Bool, true, false, cond, _&&_}
-use mathlib.Core.List.{List}
+use mathlib.Core.List.{List, _++_}
 use lib.Dec.{eqb}
-use lib.ListN.{length, getD}
+use lib.ListN.{length, getD, drop}
 use Rattle.aim.specs.Refusals as reading
 use Rattle.aim.specs.declared.Method.the-variants.{Setup}
 use Rattle.aim.specs.declared.refusals.Refusal.{Refusal}
@@ -20,6 +20,7 @@ use Rattle.table.specs.declared.SatBox.{SatBox}
 use Rattle.table.specs.declared.Session.{Session}
 use Rattle.steps.specs.Asked.{askedBy, listsBy, Told}
 use Rattle.steps.specs.Cases.{isPassed}
+use Rattle.steps.specs.Replies.{replyText}
 use Rattle.steps.specs.Sights.{sightOf}
 use Rattle.steps.specs.Steps.{isNamed, tableCase}
 use Rattle.steps.specs.declared.Sight.{Sight}
@@ -31,6 +32,7 @@ use Rattle.satbox.specs.Closing.{closing}
 use Rattle.satbox.specs.Opening.{guest, canJoin, canOpen}
 use Rattle.satbox.specs.Serving.{Serving, feedOf, takesQuery, opens, replaced, after, served}
 use Rattle.satbox.specs.Requests.{clientOf, answered}
+use Rattle.satbox.specs.declared.Response.{Response}
 use Rattle.satbox.specs.declared.opening.Client.{Client}
 use Rattle.satbox.specs.declared.opening.Offer.{Offer}
 use Rattle.satbox.specs.declared.serving.Turn.{Turn}
@@ -109,6 +111,10 @@ seated x t =
 unfoldable pub performed : Turn → SatBox → Did
 performed x t = cond (eqb (x .kind) 3) (closing 1 (x .place) t) (seated x (restreamed (x .id) (x .stream) t))
 
+-- what is left of it where a closing was done before
+unfoldable pub settled : Turn → SatBox → Did
+settled x t = cond (eqb (x .kind) 3) (nothing t) (seated x (restreamed (x .id) (x .stream) t))
+
 -- and that it can be done: what is set is of the table, and there is room for what is written
 pub record Seatable (t : SatBox) (x : Turn) : Type 0 where
   pub below : x .place < 32
@@ -118,7 +124,13 @@ pub record Seatable (t : SatBox) (x : Turn) : Type 0 where
 
 pub record Performable (t : SatBox) (x : Turn) : Type 0 where
   pub id : x .id ≤ 8
+  pub none : x .kind ≡ 3 → x .id ≡ 0
   pub closes : x .kind ≡ 3 → Closable t (x .place)
+  pub seats : (x .kind ≡ 0 → ⊥) → (x .kind ≡ 3 → ⊥) → Seatable t x
+
+pub record Settable (t : SatBox) (x : Turn) : Type 0 where
+  pub id : x .id ≤ 8
+  pub none : x .kind ≡ 3 → x .id ≡ 0
   pub seats : (x .kind ≡ 0 → ⊥) → (x .kind ≡ 3 → ⊥) → Seatable t x
 
 -- the turn x is the meaning y on the table t
@@ -202,3 +214,13 @@ abbrev pub TurnsAs : List ℕ → Request → Sight → Stream → Offer → Cas
 TurnsAs s r v m o case clock x =
     (t : SatBox) (address draw : ℕ) → Looks t s r v m case → clock ≡ t .clock
     → (opensNow case v ≡ true → o ≡ offerOf t v (clientOf address draw (askedBy r))) → TurnIs t (answered s address draw t) x
+
+-- what a refused call comes to
+abbrev pub idle : Response
+idle = record { turn = deniedAs Passed; count = 0 }
+
+-- x and d are what a request on a swept table t comes to, and the answer buffer b with its answer
+pub record Responds (s : List ℕ) (address draw : ℕ) (t : SatBox) (b : List ℕ) (x : Response) (d : List ℕ) : Type 0 where
+  pub turn : TurnIs t (answered s address draw t) (x .turn)
+  pub count : x .count ≡ length (replyText (answered s address draw t .case) s (answered s address draw t .session))
+  pub buffer : d ≡ replyText (answered s address draw t .case) s (answered s address draw t .session) ++ drop (x .count) b

@@ -1,17 +1,14 @@
 // What a request comes to once it was read: steps 11 to 18, and the change where none of them refuses. A table that is handed on is
 // copied: what is needed of it is looked up before, and it is changed at the end, in one place (`perform`).
 ghost use mathlib.Core.Path.{_≡_};
-ghost use mathlib.Core.Bool.{true};
 ghost use Rattle.stream.specs.Merging.{mergeOf};
-ghost use Rattle.table.specs.Formed.{wellFormed};
 ghost use Rattle.steps.specs.Asked.{listBy, Told};
 ghost use Rattle.satbox.specs.Does.{Does};
 ghost use Rattle.satbox.specs.Serving.{refreshed, atPort, playing, after};
-ghost use Rattle.satbox.specs.Branches.{deniedAs, reseatedAs, seatedAs, leftAs, firstCase, opensNow, Tells, OpensAs, RetunesAs, SetsUpAs, TurnsAs, Performable, performed};
+ghost use Rattle.satbox.specs.Branches.{deniedAs, reseatedAs, seatedAs, leftAs, firstCase, opensNow, Tells, OpensAs, RetunesAs, SetsUpAs, TurnsAs, Settable, settled};
 use crate::change;
 use crate::change::Event;
 use crate::change::Stamp;
-use crate::closing;
 use crate::opening::Offer;
 use aim::Method;
 use reader::Request;
@@ -35,7 +32,7 @@ pub(crate) struct Turn {
     pub(crate) case: Case,
 }
 
-fn deny(case: Case) -> Turn
+pub(crate) fn deny(case: Case) -> Turn
     ensures { λ r. ⌜ r ≡ deniedAs case ⌝ }
 {
     Turn {
@@ -281,40 +278,37 @@ pub(crate) fn turn_of(
     }
 }
 
-// Changes the table as a turn says, and writes its record.
+// Changes the table as a turn says that closes nothing, and writes its record; a closing was done before.
 pub(crate) fn perform(t: SatBox, journal: &mut [u8], turn: Turn) -> SatBox
-    requires { ⌜ (wellFormed t ≡ true) × Performable t turn ⌝ }
-    ensures { λ r. ⌜ Does t (now (journal .entry)) (performed turn t) r (now (journal .exit)) ⌝ }
+    requires { ⌜ Settable t turn ⌝ }
+    ensures { λ r. ⌜ Does t (now (journal .entry)) (settled turn t) r (now (journal .exit)) ⌝ }
 {
-    let place = turn.place;
-    if turn.kind == 3 {
-        return closing::close(t, journal, 1, place);
-    }
     let mut u = t;
+    let place = turn.place;
     let id = turn.id as usize;
     let m = turn.stream;
     if id != 0 {
         u.streams[id - 1] = m;
     }
     let s = turn.seat;
-    if place < SatBox::SESSIONS {
+    if (place < SatBox::SESSIONS) & !(turn.kind == 3) {
         u.sessions[place] = s;
     }
-    if turn.kind != 0 {
+    if !(turn.kind == 0) & !(turn.kind == 3) {
         let event = Event {
             kind: turn.kind,
             cause: 0,
             session: s,
         };
         let stamp = Stamp {
-            held: t.held,
-            clock: t.clock,
-            sequence: t.sequence,
+            held: u.held,
+            clock: u.clock,
+            sequence: u.sequence,
             frontend: u.streams[s.stream as usize - 1].frontend,
         };
         change::write(journal, stamp, event);
-        u.held = t.held + SatBox::RECORD;
-        u.sequence = journal::next_sequence(t.sequence);
+        u.held = u.held + SatBox::RECORD;
+        u.sequence = journal::next_sequence(u.sequence);
     }
     u
 }
