@@ -11,11 +11,11 @@ use Rattle.table.specs.Counts.{any, count}
 use Rattle.table.specs.Table.{noSession, has, sessionAt, streamOf, isOn}
 use Rattle.table.specs.declared.Session.{Session}
 use Rattle.table.specs.declared.SatBox.{SatBox}
-use Rattle.satbox.specs.Did.{restreamed, reseated, noting, recordOf}
-use Rattle.satbox.specs.Does.{Closable}
-use Rattle.satbox.specs.Closing.{closeOne, atClock}
+use Rattle.closings.specs.Did.{restreamed, reseated, noting, recordOf}
+use Rattle.closings.specs.Does.{Closable}
+use Rattle.closings.specs.Closing.{closeOne, atClock}
 use Rattle.satbox.specs.Calls.{emptied}
-use Rattle.satbox.specs.Serving.{replaced}
+use Rattle.serving.specs.Serving.{replaced}
 use Rattle.promises.proofs.Serving.{Alike}
 use Rattle.lives.specs.Audit.{unheld, notedBy, audited, isHolder, keeps, holds, Agree}
 use Rattle.lives.proofs.Keepers.{audited-more, noted-none, noted-others, closed-keeps, closed-kept, closed-kept-others, freed-keeps, fed-keeps, alike-keeps}

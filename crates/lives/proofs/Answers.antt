@@ -18,7 +18,7 @@ use Rattle.table.specs.declared.Session.{Session}
 use Rattle.table.specs.declared.SatBox.{SatBox}
 use Rattle.table.proofs.Counts.{first-some, first-passes}
 use Rattle.table.proofs.Rules.{fed}
-use Rattle.satbox.proofs.Keeping.{Whole}
+use Rattle.closings.proofs.Keeping.{Whole}
 use Rattle.lives.specs.Audit.{Frontend, unheld, heldBy, letGo, audited, isTaken, isHolder, keeps, holds, Agree}
 
 -- WHICH FRONTENDS ARE HELD: a stream has one exactly if an open session owns that stream

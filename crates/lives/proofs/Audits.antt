@@ -11,8 +11,8 @@ use Rattle.table.specs.Made.{fresh}
 use Rattle.table.specs.declared.SatBox.{SatBox}
 use Rattle.table.specs.declared.Outcome.{Outcome}
 use Rattle.table.specs.declared.Outcome.the-variants.{Done, Refused}
-use Rattle.satbox.specs.Did.{Did}
-use Rattle.satbox.specs.Closing.{sweeping}
+use Rattle.closings.specs.Did.{Did}
+use Rattle.closings.specs.Closing.{sweeping}
 use Rattle.satbox.specs.Calls.{ifDone, tickOutcome, collectOutcome, ticked, emptied, collected}
 use Rattle.satbox.specs.Requests.{requestOutcome, requested, replied}
 use Rattle.lives.specs.Calls.{lent, Call, request, tick, collect, order, isShort, isCall}

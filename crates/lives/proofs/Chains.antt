@@ -12,12 +12,12 @@ use Rattle.table.specs.Counts.{count}
 use Rattle.table.specs.Table.{noSession, has, sessionAt, isOn}
 use Rattle.table.specs.declared.SatBox.{SatBox}
 use Rattle.table.proofs.Counts.{bit-no, count-set-le}
-use Rattle.satbox.specs.Did.{Did, nothing, then, reseated, noting}
-use Rattle.satbox.specs.Does.{Roomy, Closable}
-use Rattle.satbox.specs.Closing.{closeOne, closeOn, cascade, free, closing, isExpired, sweepAt, swept, atClock, sweeping}
-use Rattle.satbox.proofs.Closings.{closable, closeOne-fine}
-use Rattle.satbox.proofs.Keeping.{Whole, whole-roomy, sweepAt-whole, clock-whole}
-use Rattle.satbox.proofs.Runs.{upto-holds}
+use Rattle.closings.specs.Did.{Did, nothing, then, reseated, noting}
+use Rattle.closings.specs.Does.{Roomy, Closable}
+use Rattle.closings.specs.Closing.{closeOne, closeOn, cascade, free, closing, isExpired, sweepAt, swept, atClock, sweeping}
+use Rattle.closings.proofs.Closings.{closable, closeOne-fine}
+use Rattle.closings.proofs.Keeping.{Whole, whole-roomy, sweepAt-whole, clock-whole}
+use Rattle.closings.proofs.Runs.{upto-holds}
 use Rattle.lives.specs.Audit.{Agree}
 use Rattle.lives.specs.Moments.{clocked, restream, closes, Leads, begun, quiet, noted}
 use Rattle.lives.proofs.Fates.{gone}

@@ -18,12 +18,12 @@ use Rattle.table.specs.declared.Session.{Session}
 use Rattle.table.specs.declared.SatBox.{SatBox}
 use Rattle.table.proofs.Counts.{getD-set-here, count-zero-at, count-cleared-none}
 use Rattle.table.proofs.Changes.{clear}
-use Rattle.satbox.specs.Did.{Did, nothing, then, when, upto, restreamed, reseated, noting}
-use Rattle.satbox.specs.Does.{Roomy, Closable}
-use Rattle.satbox.specs.Closing.{closeOne, closeOn, cascade, free, closing, isExpired, sweepAt}
-use Rattle.satbox.proofs.Closings.{closable, closeOne-fine, closeOn-fine}
-use Rattle.satbox.proofs.Keeping.{Whole, whole-roomy, sweepAt-whole, cascade-sessions}
-use Rattle.satbox.proofs.Runs.{upto-keeps, upto-holds}
+use Rattle.closings.specs.Did.{Did, nothing, then, when, upto, restreamed, reseated, noting}
+use Rattle.closings.specs.Does.{Roomy, Closable}
+use Rattle.closings.specs.Closing.{closeOne, closeOn, cascade, free, closing, isExpired, sweepAt}
+use Rattle.closings.proofs.Closings.{closable, closeOne-fine, closeOn-fine}
+use Rattle.closings.proofs.Keeping.{Whole, whole-roomy, sweepAt-whole, cascade-sessions}
+use Rattle.closings.proofs.Runs.{upto-keeps, upto-holds}
 use Rattle.lives.specs.Closed.{isClosing}
 
 -- the session s of t in the table after d, where `after` stands in its place

@@ -14,16 +14,16 @@ use Rattle.table.specs.Finding.{lowestPlace, lowestId, isTaken, nextNumber, dra
 use Rattle.table.specs.declared.Session.{Session}
 use Rattle.table.specs.declared.SatBox.{SatBox}
 use Rattle.table.proofs.Counts.{getD-set-all}
-use Rattle.satbox.specs.Did.{Did, nothing, then, restreamed, reseated, noting}
-use Rattle.satbox.specs.Does.{Closable}
-use Rattle.satbox.specs.Closing.{closeOne, free, closing, sweeping, atClock}
-use Rattle.satbox.specs.Opening.{guest, seating as seated, canJoin, joining, canOpen, opening}
-use Rattle.satbox.specs.Serving.{replaced}
-use Rattle.satbox.specs.Requests.{answered, requested}
-use Rattle.satbox.specs.declared.opening.Client.{Client}
-use Rattle.satbox.proofs.Keeping.{Whole, whole-roomy, clock-whole}
+use Rattle.closings.specs.Did.{Did, nothing, then, restreamed, reseated, noting}
+use Rattle.closings.specs.Does.{Closable}
+use Rattle.closings.specs.Closing.{closeOne, free, closing, sweeping, atClock}
+use Rattle.serving.specs.Opening.{guest, seating as seated, canJoin, joining, canOpen, opening}
+use Rattle.serving.specs.Serving.{replaced, answered}
+use Rattle.satbox.specs.Requests.{requested}
+use Rattle.serving.specs.declared.opening.Client.{Client}
+use Rattle.closings.proofs.Keeping.{Whole, whole-roomy, clock-whole}
 use Rattle.satbox.proofs.Kept.{sweeping-whole}
-use Rattle.satbox.proofs.RecordLaws.{closing-holds, swept-holds}
+use Rattle.serving.proofs.RecordLaws.{closing-holds, swept-holds}
 use Rattle.lives.specs.Calls.{isShort}
 use Rattle.lives.proofs.Requests.{Retuned, retuned-same, answered-holds}
 

@@ -16,13 +16,13 @@ use Rattle.table.specs.Formed.{areSizes}
 use Rattle.table.specs.declared.SatBox.{SatBox}
 use Rattle.table.specs.declared.Outcome.{Outcome}
 use Rattle.table.specs.declared.Outcome.the-variants.{Done, Refused}
-use Rattle.satbox.specs.Did.{Did, bytesOf}
+use Rattle.closings.specs.Did.{Did, bytesOf}
 use Rattle.satbox.specs.Calls.{ifDone, emptied}
-use Rattle.satbox.proofs.DoesLaws.{bytes-append, bytes-length}
-use Rattle.satbox.proofs.Keeping.{Whole}
+use Rattle.closings.proofs.DoesLaws.{bytes-append, bytes-length}
+use Rattle.closings.proofs.Keeping.{Whole}
 use Rattle.satbox.proofs.Kept.{fresh-whole}
-use Rattle.satbox.proofs.RecordLaws.{Counts-on}
-use Rattle.satbox.proofs.Recorded.{Recorded}
+use Rattle.serving.proofs.RecordLaws.{Counts-on}
+use Rattle.serving.proofs.Recorded.{Recorded}
 use Rattle.promises.proofs.Written.{Counted}
 use Rattle.lives.specs.Calls.{Lent, own, lent, ownAfter}
 use Rattle.lives.specs.Runs.{Life, born}

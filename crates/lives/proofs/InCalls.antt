@@ -12,10 +12,11 @@ use Rattle.table.specs.declared.SatBox.{SatBox}
 use Rattle.table.specs.declared.Outcome.{Outcome}
 use Rattle.table.specs.declared.Outcome.the-variants.{Done}
 use Rattle.steps.specs.Cases.{isPassed}
-use Rattle.satbox.specs.Closing.{isExpired, sweeping, atClock}
+use Rattle.closings.specs.Closing.{isExpired, sweeping, atClock}
 use Rattle.satbox.specs.Calls.{ifDone}
-use Rattle.satbox.specs.Requests.{requestOutcome, answered, requested, replied}
-use Rattle.satbox.proofs.Keeping.{Whole, clock-whole}
+use Rattle.satbox.specs.Requests.{requestOutcome, requested, replied}
+use Rattle.serving.specs.Serving.{answered}
+use Rattle.closings.proofs.Keeping.{Whole, clock-whole}
 use Rattle.satbox.proofs.Kept.{sweeping-whole}
 use Rattle.lives.specs.Calls.{Lent, lent, Call, request, outcomeOf, satboxAfter, recordsIn}
 use Rattle.lives.specs.Closed.{isClosing, Closed, placeNamedBy, Sweeps, in-request, in-tick}

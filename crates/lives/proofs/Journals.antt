@@ -9,7 +9,7 @@ use Rattle.digits.specs.Wrote.{written}
 use Rattle.digits.proofs.Writes.{written-fits}
 use Rattle.journal.specs.Records.{nextSequence}
 use Rattle.journal.specs.declared.Record.{Record}
-use Rattle.satbox.proofs.RecordLaws.{Counts-on}
+use Rattle.serving.proofs.RecordLaws.{Counts-on}
 
 pub take-written : (j : List ℕ) (held : ℕ) (t : List ℕ) → held + length t ≤ length j → take (held + length t) (written j held t) ≡ take held j ++ t
 take-written j held t h =

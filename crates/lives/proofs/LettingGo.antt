@@ -11,8 +11,8 @@ use Rattle.scan.proofs.Bools.{cond-keeps}
 use Rattle.journal.specs.declared.Record.{Record}
 use Rattle.table.specs.Table.{sessionAt}
 use Rattle.table.specs.declared.SatBox.{SatBox}
-use Rattle.satbox.specs.Did.{Did, reseated, noting, recordOf}
-use Rattle.satbox.specs.Closing.{closeOne}
+use Rattle.closings.specs.Did.{Did, reseated, noting, recordOf}
+use Rattle.closings.specs.Closing.{closeOne}
 use Rattle.lives.specs.Audit.{Frontend, unheld, heldBy, letGo, closedBy, notedBy, audited, isHolder, Agree}
 use Rattle.lives.specs.Moments.{Notes, opens, joins, closes, Leads, begun, quiet, noted, LetGo}
 use Rattle.lives.proofs.Keepers.{audited-more}

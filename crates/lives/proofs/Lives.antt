@@ -23,11 +23,11 @@ use Rattle.table.specs.declared.Outcome.the-variants.{Done}
 use Rattle.steps.specs.Asked.{askedOf, listsOf}
 use Rattle.steps.specs.Cases.{isPassed}
 use Rattle.steps.specs.declared.cases.Case.the-variants.{Passed, Full}
-use Rattle.satbox.specs.Did.{bytesOf}
-use Rattle.satbox.specs.Closing.{isExpired, sweeping}
+use Rattle.closings.specs.Did.{bytesOf}
+use Rattle.closings.specs.Closing.{isExpired, sweeping}
 use Rattle.satbox.specs.Requests.{requested, replied}
-use Rattle.satbox.proofs.DoesLaws.{bytes-append}
-use Rattle.satbox.proofs.Kept.{whole-formed}
+use Rattle.closings.proofs.DoesLaws.{bytes-append}
+use Rattle.closings.proofs.Keeping.{whole-formed}
 use Rattle.lives.specs.Calls.{Lent, Call, request, outcomeOf, refusedBy, satboxAfter, journalAfter, recordsIn, uncollected, lacksJournal, isCall}
 use Rattle.lives.specs.Runs.{Life, live, Lives, after}
 use Rattle.lives.specs.Closed.{Closed, placeNamedBy, Sweeps}

@@ -19,12 +19,12 @@ use Rattle.table.specs.Table.{noSession, sessionAt}
 use Rattle.table.specs.declared.Session.{Session}
 use Rattle.table.specs.declared.Outcome.{Outcome}
 use Rattle.table.specs.declared.Outcome.the-variants.{Done, Refused}
-use Rattle.satbox.specs.Did.{Did, bytesOf}
-use Rattle.satbox.specs.Closing.{sweeping}
+use Rattle.closings.specs.Did.{Did, bytesOf}
+use Rattle.closings.specs.Closing.{sweeping}
 use Rattle.satbox.specs.Calls.{ifDone, tickOutcome, ticked, collectOutcome, emptied, collected}
 use Rattle.satbox.specs.Requests.{requestOutcome, requested, replied}
-use Rattle.satbox.proofs.DoesLaws.{bytes-length}
-use Rattle.satbox.proofs.RecordLaws.{Counts-on}
+use Rattle.closings.proofs.DoesLaws.{bytes-length}
+use Rattle.serving.proofs.RecordLaws.{Counts-on}
 use Rattle.lives.specs.Calls.{lent, Call, request, tick, collect, order, isShort, isCall}
 use Rattle.lives.specs.Runs.{Life, born, live, run, Lives, after}
 use Rattle.lives.proofs.Journals.{counts-at}

@@ -18,16 +18,15 @@ use Rattle.table.specs.declared.SatBox.{SatBox}
 use Rattle.steps.specs.Asked.{Asked, Lists, askedOf, listsOf}
 use Rattle.steps.specs.Sights.{sightOf}
 use Rattle.steps.specs.Steps.{isSetup, looksUp, isNamed}
-use Rattle.satbox.specs.Did.{Did, nothing, restreamed}
-use Rattle.satbox.specs.Does.{Closable}
-use Rattle.satbox.specs.Closing.{closing}
-use Rattle.satbox.specs.Opening.{joining, opening}
-use Rattle.satbox.specs.Serving.{merging, merges, replaced, refreshed, after, Serving, keeping, retuning, seating, grant}
-use Rattle.satbox.specs.Requests.{clientOf, answered}
-use Rattle.satbox.specs.declared.opening.Client.{Client}
-use Rattle.satbox.proofs.Keeping.{Whole}
-use Rattle.satbox.proofs.Passing.{Untested, named-needed, own-live}
-use Rattle.satbox.proofs.Branching.{merging-live}
+use Rattle.closings.specs.Did.{Did, nothing, restreamed}
+use Rattle.closings.specs.Does.{Closable}
+use Rattle.closings.specs.Closing.{closing}
+use Rattle.serving.specs.Opening.{joining, opening}
+use Rattle.serving.specs.Serving.{merging, merges, replaced, refreshed, after, Serving, keeping, retuning, seating, grant, clientOf, answered}
+use Rattle.serving.specs.declared.opening.Client.{Client}
+use Rattle.closings.proofs.Keeping.{Whole}
+use Rattle.serving.proofs.Passing.{Untested, named-needed, own-live}
+use Rattle.serving.proofs.Branching.{merging-live}
 use Rattle.promises.proofs.Passing.{served-by, tears-closable}
 use Rattle.promises.proofs.Requests.{answered-by}
 use Rattle.promises.proofs.Serving.{Alike}

@@ -20,11 +20,10 @@ use Rattle.steps.specs.Cases.{_refuses_or_}
 use Rattle.steps.specs.Steps.{isSetup, isDead}
 use Rattle.steps.specs.declared.cases.Case.{Case}
 use Rattle.steps.specs.declared.cases.Case.the-variants.{Passed, Full}
-use Rattle.satbox.specs.Opening.{hasRoom}
-use Rattle.satbox.specs.Serving.{canSeat, changeCase, caseOf, Serving, served}
-use Rattle.satbox.specs.Requests.{clientOf, answered}
-use Rattle.satbox.specs.declared.opening.Client.{Client}
-use Rattle.satbox.proofs.Passing.{untested}
+use Rattle.serving.specs.Opening.{hasRoom}
+use Rattle.serving.specs.Serving.{canSeat, changeCase, caseOf, Serving, served, clientOf, answered}
+use Rattle.serving.specs.declared.opening.Client.{Client}
+use Rattle.serving.proofs.Passing.{untested}
 use Rattle.satbox.proofs.RequestLaws.{grant-passes}
 use Rattle.lives.specs.Openings.{PassesElse}
 

@@ -13,14 +13,14 @@ use Rattle.table.specs.declared.Refusal.{Refusal}
 use Rattle.table.specs.declared.Refusal.the-variants.{Table, Journal}
 use Rattle.table.specs.declared.Outcome.{Outcome}
 use Rattle.table.specs.declared.Outcome.the-variants.{Refused}
-use Rattle.satbox.specs.Closing.{sweeping, atClock}
+use Rattle.closings.specs.Closing.{sweeping, atClock}
 use Rattle.satbox.specs.Calls.{_else_andThen_, isJournal, tickOutcome, ticked, tickedJournal, collectOutcome, collected, collectedInto}
 use Rattle.satbox.specs.Requests.{requestOutcome, requested, replied, repliedJournal}
-use Rattle.satbox.proofs.Closings.{swept-fine}
-use Rattle.satbox.proofs.Keeping.{Whole, whole-roomy, clock-whole}
+use Rattle.closings.proofs.Closings.{swept-fine}
+use Rattle.closings.proofs.Keeping.{Whole, whole-roomy, clock-whole}
 use Rattle.satbox.proofs.Kept.{sweeping-whole, collect-whole}
-use Rattle.satbox.proofs.RecordLaws.{swept-numbered}
-use Rattle.satbox.proofs.Recorded.{swept-recorded}
+use Rattle.serving.proofs.RecordLaws.{swept-numbered}
+use Rattle.serving.proofs.Recorded.{swept-recorded}
 use Rattle.promises.proofs.Reading.{request-whole, request-recorded}
 use Rattle.promises.proofs.Written.{Counted, requested-counted}
 use Rattle.lives.specs.Calls.{own, other, Call, request, tick, collect, order, isShort, isLent, isCall}

@@ -21,11 +21,11 @@ use Rattle.table.specs.declared.SatBox.{SatBox}
 use Rattle.table.proofs.Counts.{count-zero-at, first-passes}
 use Rattle.table.proofs.Rules.{fed}
 use Rattle.table.proofs.Draws.{drawn-nonzero}
-use Rattle.satbox.specs.Did.{restreamed, reseated, noting, recordOf}
-use Rattle.satbox.specs.Opening.{hasPlace, guest, seating, canJoin, canOpen}
-use Rattle.satbox.specs.declared.opening.Client.{Client}
-use Rattle.satbox.proofs.Keeping.{Whole}
-use Rattle.satbox.proofs.OpeningKeeps.{new-feed, row}
+use Rattle.closings.specs.Did.{restreamed, reseated, noting, recordOf}
+use Rattle.serving.specs.Opening.{hasPlace, guest, seating, canJoin, canOpen}
+use Rattle.serving.specs.declared.opening.Client.{Client}
+use Rattle.closings.proofs.Keeping.{Whole}
+use Rattle.serving.proofs.OpeningKeeps.{new-feed, row}
 use Rattle.lives.specs.Audit.{Frontend, notedBy, audited, isHolder, keeps, Agree}
 use Rattle.lives.proofs.Keepers.{any-set-same, any-set-new, any-none, noted-joined, keeps-feed}
 use Rattle.lives.proofs.Agreeing.{agree-noted, agree-freed}

@@ -7,15 +7,15 @@ use Rattle.stream.specs.declared.Stream.{Stream}
 use Rattle.table.specs.Finding.{lowestId}
 use Rattle.table.specs.declared.Session.{Session}
 use Rattle.table.specs.declared.SatBox.{SatBox}
-use Rattle.satbox.specs.Did.{Did, nothing, restreamed, reseated, noting}
-use Rattle.satbox.specs.Does.{Closable}
-use Rattle.satbox.specs.Closing.{closing, sweeping, atClock}
-use Rattle.satbox.specs.Opening.{guest, seating as seated, canJoin, joining, canOpen, opening}
-use Rattle.satbox.specs.Serving.{replaced}
-use Rattle.satbox.specs.Requests.{answered, requested}
-use Rattle.satbox.specs.declared.opening.Client.{Client}
-use Rattle.satbox.proofs.Closings.{closing-fine, swept-fine}
-use Rattle.satbox.proofs.Keeping.{Whole, whole-roomy, clock-whole}
+use Rattle.closings.specs.Did.{Did, nothing, restreamed, reseated, noting}
+use Rattle.closings.specs.Does.{Closable}
+use Rattle.closings.specs.Closing.{closing, sweeping, atClock}
+use Rattle.serving.specs.Opening.{guest, seating as seated, canJoin, joining, canOpen, opening}
+use Rattle.serving.specs.Serving.{replaced, answered}
+use Rattle.satbox.specs.Requests.{requested}
+use Rattle.serving.specs.declared.opening.Client.{Client}
+use Rattle.closings.proofs.Closings.{closing-fine, swept-fine}
+use Rattle.closings.proofs.Keeping.{Whole, whole-roomy, clock-whole}
 use Rattle.satbox.proofs.Kept.{sweeping-whole}
 use Rattle.lives.proofs.Requests.{Retuned, as-it-was, merged, answered-holds}
 

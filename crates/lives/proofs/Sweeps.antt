@@ -16,9 +16,9 @@ use Rattle.table.specs.declared.Session.{Session}
 use Rattle.table.specs.declared.SatBox.{SatBox}
 use Rattle.table.proofs.Counts.{bit-yes, count-set, count-zero-at, first-some, first-passes}
 use Rattle.table.proofs.Changes.{seated-live, opened}
-use Rattle.satbox.specs.Did.{Did}
-use Rattle.satbox.specs.Closing.{isExpired, swept}
-use Rattle.satbox.proofs.Keeping.{Whole, swept-whole}
+use Rattle.closings.specs.Did.{Did}
+use Rattle.closings.specs.Closing.{isExpired, swept}
+use Rattle.closings.proofs.Keeping.{Whole, swept-whole}
 use Rattle.lives.specs.Closed.{Closed}
 use Rattle.lives.proofs.Fates.{Fate, stays, leaves, Fates, noted-as, upto-fates, aged-upto}
 

@@ -14,13 +14,12 @@ use Rattle.table.proofs.Changes.{opened}
 use Rattle.steps.specs.Asked.{Asked, Lists, askedOf, listsOf}
 use Rattle.steps.specs.Sights.{sightOf}
 use Rattle.steps.specs.Cases.{isPassed}
-use Rattle.satbox.specs.Did.{Did}
-use Rattle.satbox.specs.Does.{Closable}
-use Rattle.satbox.specs.Closing.{closing}
-use Rattle.satbox.specs.Serving.{Serving, served}
-use Rattle.satbox.specs.Requests.{clientOf, answered}
-use Rattle.satbox.specs.declared.opening.Client.{Client}
-use Rattle.satbox.proofs.Keeping.{Whole, owner-sessions}
+use Rattle.closings.specs.Did.{Did}
+use Rattle.closings.specs.Does.{Closable}
+use Rattle.closings.specs.Closing.{closing}
+use Rattle.serving.specs.Serving.{Serving, served, clientOf, answered}
+use Rattle.serving.specs.declared.opening.Client.{Client}
+use Rattle.closings.proofs.Keeping.{Whole, owner-sessions}
 use Rattle.promises.proofs.Passing.{served-by, tears-closable}
 use Rattle.promises.proofs.Requests.{answered-by}
 use Rattle.promises.proofs.Records.{closed-is}

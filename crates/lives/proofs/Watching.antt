@@ -10,13 +10,13 @@ use Rattle.table.specs.Finding.{lowestPlace, lowestId}
 use Rattle.table.specs.declared.Session.{Session}
 use Rattle.table.specs.declared.SatBox.{SatBox}
 use Rattle.table.proofs.Draws.{drawn-nonzero}
-use Rattle.satbox.specs.Did.{nothing, restreamed}
-use Rattle.satbox.specs.Closing.{sweeping}
-use Rattle.satbox.specs.Opening.{hasPlace, guest, seating as seated, canJoin, joining, canOpen, opening}
-use Rattle.satbox.specs.Serving.{replaced}
-use Rattle.satbox.specs.Requests.{answered, requested}
-use Rattle.satbox.specs.declared.opening.Client.{Client}
-use Rattle.satbox.proofs.Keeping.{Whole}
+use Rattle.closings.specs.Did.{nothing, restreamed}
+use Rattle.closings.specs.Closing.{sweeping}
+use Rattle.serving.specs.Opening.{hasPlace, guest, seating as seated, canJoin, joining, canOpen, opening}
+use Rattle.serving.specs.Serving.{replaced, answered}
+use Rattle.satbox.specs.Requests.{requested}
+use Rattle.serving.specs.declared.opening.Client.{Client}
+use Rattle.closings.proofs.Keeping.{Whole}
 use Rattle.satbox.proofs.Kept.{sweeping-whole}
 use Rattle.promises.proofs.Serving.{Alike}
 use Rattle.lives.specs.Moments.{restream, retune, replace, opens, joins, begun, quiet, noted}

@@ -15,15 +15,15 @@ use Rattle.table.specs.declared.SatBox.{SatBox}
 use Rattle.table.specs.declared.Outcome.{Outcome}
 use Rattle.table.specs.declared.Outcome.the-variants.{Done}
 use Rattle.table.proofs.Counts.{getD-set-all}
-use Rattle.satbox.specs.Did.{Did, nothing, restreamed, reseated, noting}
-use Rattle.satbox.specs.Does.{Closable}
-use Rattle.satbox.specs.Closing.{isExpired, closing, sweeping, atClock}
-use Rattle.satbox.specs.Opening.{guest, seating as seated, canJoin, joining, canOpen, opening}
+use Rattle.closings.specs.Did.{Did, nothing, restreamed, reseated, noting}
+use Rattle.closings.specs.Does.{Closable}
+use Rattle.closings.specs.Closing.{isExpired, closing, sweeping, atClock}
+use Rattle.serving.specs.Opening.{guest, seating as seated, canJoin, joining, canOpen, opening}
 use Rattle.satbox.specs.Calls.{ifDone, ticked}
-use Rattle.satbox.specs.Serving.{replaced}
-use Rattle.satbox.specs.Requests.{answered, requested, replied}
-use Rattle.satbox.specs.declared.opening.Client.{Client}
-use Rattle.satbox.proofs.Keeping.{Whole, clock-whole}
+use Rattle.serving.specs.Serving.{replaced, answered}
+use Rattle.satbox.specs.Requests.{requested, replied}
+use Rattle.serving.specs.declared.opening.Client.{Client}
+use Rattle.closings.proofs.Keeping.{Whole, clock-whole}
 use Rattle.satbox.proofs.Kept.{sweeping-whole}
 use Rattle.lives.specs.Calls.{Call, outcomeOf, satboxAfter}
 use Rattle.lives.specs.Closed.{Sweeps, in-request, in-tick}

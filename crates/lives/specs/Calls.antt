@@ -13,7 +13,7 @@ use Rattle.table.specs.declared.Outcome.the-variants.{Done, Refused}
 use Rattle.orders.specs.Orders.{orderOf}
 use Rattle.orders.specs.declared.Ordered.{Ordered}
 use Rattle.orders.specs.declared.Ordered.the-variants.{On, Off, Refused as Unordered}
-use Rattle.satbox.specs.Closing.{sweeping}
+use Rattle.closings.specs.Closing.{sweeping}
 use Rattle.satbox.specs.Calls.{ifDone, ticked, tickedJournal, collected, collectedInto}
 use Rattle.satbox.specs.Requests.{requested, replied, repliedJournal}
 

@@ -10,10 +10,10 @@ use Rattle.table.specs.Counts.{count}
 use Rattle.table.specs.Table.{sessionAt, streamOf, isOn}
 use Rattle.table.specs.declared.Session.{Session}
 use Rattle.table.specs.declared.SatBox.{SatBox}
-use Rattle.satbox.specs.Did.{Did, restreamed, noting}
-use Rattle.satbox.specs.Closing.{closeOne, atClock}
+use Rattle.closings.specs.Did.{Did, restreamed, noting}
+use Rattle.closings.specs.Closing.{closeOne, atClock}
 use Rattle.satbox.specs.Calls.{emptied}
-use Rattle.satbox.specs.Serving.{replaced}
+use Rattle.serving.specs.Serving.{replaced}
 use Rattle.lives.specs.Audit.{holds, Agree}
 
 -- THE CHANGES THAT WRITE NOTHING open and close no session: another clock; a stream that no open session is on, made or freed; a query merged into a

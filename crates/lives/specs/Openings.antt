@@ -8,8 +8,8 @@ use Rattle.steps.specs.Sights.{sightOf}
 use Rattle.steps.specs.Steps.{tableCase}
 use Rattle.steps.specs.declared.Sight.{Sight}
 use Rattle.steps.specs.declared.cases.Case.the-variants.{Passed}
-use Rattle.satbox.specs.Opening.{hasPlace, hasFrontend}
-use Rattle.satbox.specs.Serving.{feedOf, merging, merges, isClash, isTooMany, opens}
+use Rattle.serving.specs.Opening.{hasPlace, hasFrontend}
+use Rattle.serving.specs.Serving.{feedOf, merging, merges, isClash, isTooMany, opens}
 
 -- not "a new stream whose fe is held, or with no fe and no frontend free"
 abbrev pub hasFeed : SatBox → Sight → Bool

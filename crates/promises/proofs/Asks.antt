@@ -6,7 +6,7 @@ use Rattle.table.specs.Made.{fresh}
 use Rattle.table.specs.declared.SatBox.{SatBox}
 use Rattle.steps.specs.Cases.{stepOf, statusOf}
 use Rattle.steps.specs.declared.cases.Case.{Case}
-use Rattle.satbox.specs.Serving.{Serving}
+use Rattle.serving.specs.Serving.{Serving}
 use Rattle.satbox.specs.Requests.{requested}
 
 -- THE REQUESTS: document 01's example

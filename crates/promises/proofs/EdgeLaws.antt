@@ -25,10 +25,10 @@ use Rattle.table.specs.declared.SatBox.{SatBox}
 use Rattle.steps.specs.Asked.{Asked, Lists, attributes, codesIn, askedOf, listsOf}
 use Rattle.steps.specs.declared.cases.Case.{Case}
 use Rattle.steps.specs.declared.cases.Case.the-variants.{Reading}
-use Rattle.satbox.specs.Closing.{sweeping}
-use Rattle.satbox.specs.Serving.{served}
-use Rattle.satbox.specs.Requests.{clientOf, answered, requested}
-use Rattle.satbox.specs.declared.opening.Client.{Client}
+use Rattle.closings.specs.Closing.{sweeping}
+use Rattle.serving.specs.Serving.{served, clientOf, answered}
+use Rattle.satbox.specs.Requests.{requested}
+use Rattle.serving.specs.declared.opening.Client.{Client}
 
 -- DRAWING: every number from n on that comes before the one given is taken
 abbrev AllTaken : List Session → ℕ → ℕ → Type 0

@@ -47,12 +47,12 @@ use Rattle.steps.specs.Steps.{lacksSession, isDead, isOutOfState, isAnothers, l
 use Rattle.steps.specs.Replies.{replyText}
 use Rattle.steps.specs.declared.cases.Case.{Case}
 use Rattle.steps.specs.declared.cases.Case.the-variants.{Reading, Transport, TooManyPids}
-use Rattle.satbox.specs.Did.{nothing, upto, restreamed, reseated, noting, bytesOf}
-use Rattle.satbox.specs.Closing.{isExpired, closeOne, closeOn, cascade, closing, sweepAt, swept, atClock, sweeping}
-use Rattle.satbox.specs.Opening.{seating, joining, opening}
-use Rattle.satbox.specs.Serving.{merging, changeCase, caseOf, replaced, served}
-use Rattle.satbox.specs.Requests.{answered, requested, answerOf, requestOutcome, repliedInto, repliedJournal}
-use Rattle.satbox.specs.declared.opening.Client.{Client}
+use Rattle.closings.specs.Did.{nothing, upto, restreamed, reseated, noting, bytesOf}
+use Rattle.closings.specs.Closing.{isExpired, closeOne, closeOn, cascade, closing, sweepAt, swept, atClock, sweeping}
+use Rattle.serving.specs.Opening.{seating, joining, opening}
+use Rattle.serving.specs.Serving.{merging, changeCase, caseOf, replaced, served, answered}
+use Rattle.satbox.specs.Requests.{requested, answerOf, requestOutcome, repliedInto, repliedJournal}
+use Rattle.serving.specs.declared.opening.Client.{Client}
 use Rattle.promises.proofs.Asks.{example, exampleAnswer, setupAt, setup, join, play, teardown, box, home, verdictOf, verdict, passes, ask, run, after}
 use Rattle.promises.proofs.EdgeLaws.{drawn-first, RefusedAs, ReadsAs, refused-alike, served-alike}
 

@@ -16,12 +16,12 @@ use Rattle.steps.specs.Steps.{isSetup, isNamed, lacksPort, tableCase}
 use Rattle.steps.specs.declared.Sight.{Sight}
 use Rattle.steps.specs.declared.cases.Case.the-variants.{Passed, Combination, TooManyPids, Full}
 use Rattle.steps.proofs.ReplyLaws.{unread-passed, table-unread}
-use Rattle.satbox.specs.Does.{Closable}
-use Rattle.satbox.specs.Opening.{canJoin, canOpen}
-use Rattle.satbox.specs.Serving.{feedOf, merging, merges, isClash, isTooMany, opens, canSeat, changeCase, caseOf, Serving, grant, denied, served}
-use Rattle.satbox.specs.declared.opening.Client.{Client}
-use Rattle.satbox.proofs.Keeping.{Whole}
-use Rattle.satbox.proofs.Passing.{chain, Untested, untested, named-needed, named-closable}
+use Rattle.closings.specs.Does.{Closable}
+use Rattle.serving.specs.Opening.{canJoin, canOpen}
+use Rattle.serving.specs.Serving.{feedOf, merging, merges, isClash, isTooMany, opens, canSeat, changeCase, caseOf, Serving, grant, denied, served}
+use Rattle.serving.specs.declared.opening.Client.{Client}
+use Rattle.closings.proofs.Keeping.{Whole}
+use Rattle.serving.proofs.Passing.{chain, Untested, untested, named-needed, named-closable}
 use Rattle.satbox.proofs.RequestLaws.{case-unread}
 
 -- STEPS 16 TO 18: none of their tests holds

@@ -13,8 +13,8 @@ use Rattle.reader.specs.declared.fields.Transport.the-variants.{Port}
 use Rattle.table.specs.declared.SatBox.{SatBox}
 use Rattle.steps.proofs.Telling.{asked-fit, asked-port}
 use Rattle.satbox.specs.Requests.{requested, replied}
-use Rattle.satbox.proofs.Keeping.{Whole}
-use Rattle.satbox.proofs.Recorded.{Recorded}
+use Rattle.closings.proofs.Keeping.{Whole}
+use Rattle.serving.proofs.Recorded.{Recorded}
 use Rattle.promises.proofs.Serving.{isPort}
 use Rattle.promises.proofs.Requests.{Reads, requested-whole, replied-whole}
 use Rattle.promises.proofs.Written.{requested-recorded}

@@ -23,16 +23,16 @@ use Rattle.steps.specs.Asked.{Asked, Lists, askedOf, listsOf}
 use Rattle.steps.specs.Sights.{sightOf}
 use Rattle.steps.specs.Cases.{isPassed}
 use Rattle.steps.specs.Steps.{isNamed}
-use Rattle.satbox.specs.Did.{Did, nothing, restreamed, noting, recordOf}
-use Rattle.satbox.specs.Closing.{closing, sweeping}
-use Rattle.satbox.specs.Opening.{guest, seating, joining, opening}
-use Rattle.satbox.specs.Serving.{merging, Serving, granted, grant, served}
-use Rattle.satbox.specs.Requests.{clientOf, answered, requested}
-use Rattle.satbox.specs.declared.opening.Client.{Client}
-use Rattle.satbox.proofs.Keeping.{Whole}
-use Rattle.satbox.proofs.OpeningKeeps.{row}
-use Rattle.satbox.proofs.Branching.{merging-feed}
-use Rattle.satbox.proofs.Leaving.{leaving, joiner-records, owner-records}
+use Rattle.closings.specs.Did.{Did, nothing, restreamed, noting, recordOf}
+use Rattle.closings.specs.Closing.{closing, sweeping}
+use Rattle.serving.specs.Opening.{guest, seating, joining, opening}
+use Rattle.serving.specs.Serving.{merging, Serving, granted, grant, served, clientOf, answered}
+use Rattle.satbox.specs.Requests.{requested}
+use Rattle.serving.specs.declared.opening.Client.{Client}
+use Rattle.closings.proofs.Keeping.{Whole}
+use Rattle.serving.proofs.OpeningKeeps.{row}
+use Rattle.serving.proofs.Branching.{merging-feed}
+use Rattle.closings.proofs.Leaving.{leaving, joiner-records, owner-records}
 use Rattle.promises.proofs.Passing.{Changing, served-by, feed, can-join, can-open}
 use Rattle.promises.proofs.Serving.{denied-still}
 use Rattle.promises.proofs.Requests.{answered-by, answered-still}

@@ -13,11 +13,11 @@ use Rattle.table.specs.declared.SatBox.{SatBox}
 use Rattle.steps.specs.Asked.{askedOf, listsOf}
 use Rattle.steps.specs.Cases.{isPassed}
 use Rattle.steps.specs.declared.cases.Case.the-variants.{Reading}
-use Rattle.satbox.specs.Did.{did, nothing}
-use Rattle.satbox.specs.Closing.{sweeping}
-use Rattle.satbox.specs.Serving.{Serving, served, denied}
-use Rattle.satbox.specs.Requests.{requestOutcome, clientOf, answered, requested, replied}
-use Rattle.satbox.proofs.Keeping.{Whole}
+use Rattle.closings.specs.Did.{did, nothing}
+use Rattle.closings.specs.Closing.{sweeping}
+use Rattle.serving.specs.Serving.{Serving, served, denied, clientOf, answered}
+use Rattle.satbox.specs.Requests.{requestOutcome, requested, replied}
+use Rattle.closings.proofs.Keeping.{Whole}
 use Rattle.satbox.proofs.Kept.{done-keeps, sweeping-whole}
 use Rattle.promises.proofs.Serving.{Fit, served-whole, denied-still}
 

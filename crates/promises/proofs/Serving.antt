@@ -29,14 +29,14 @@ use Rattle.steps.specs.Asked.{Asked, Lists}
 use Rattle.steps.specs.Sights.{portOf, sightOf}
 use Rattle.steps.specs.Steps.{isSetup, looksUp, isNamed}
 use Rattle.steps.specs.Cases.{isPassed}
-use Rattle.satbox.specs.Did.{Did, nothing, restreamed}
-use Rattle.satbox.specs.Serving.{merging, merges, replaced, refreshed, atPort, playing, after, Serving, keeping, retuning, seating, grant, served}
-use Rattle.satbox.specs.declared.opening.Client.{Client}
-use Rattle.satbox.proofs.Keeping.{Whole, closing-whole}
+use Rattle.closings.specs.Did.{Did, nothing, restreamed}
+use Rattle.serving.specs.Serving.{merging, merges, replaced, refreshed, atPort, playing, after, Serving, keeping, retuning, seating, grant, served}
+use Rattle.serving.specs.declared.opening.Client.{Client}
+use Rattle.closings.proofs.Keeping.{Whole, closing-whole}
 use Rattle.satbox.proofs.Kept.{merged-whole}
-use Rattle.satbox.proofs.OpeningKeeps.{Proper, joining-whole, feed-range, opening-whole}
-use Rattle.satbox.proofs.Passing.{Untested, named-needed, named-closable, own-live}
-use Rattle.satbox.proofs.Branching.{merging-new, merging-live}
+use Rattle.serving.proofs.OpeningKeeps.{Proper, joining-whole, feed-range, opening-whole}
+use Rattle.serving.proofs.Passing.{Untested, named-needed, named-closable, own-live}
+use Rattle.serving.proofs.Branching.{merging-new, merging-live}
 use Rattle.satbox.proofs.RequestLaws.{grant-passes}
 use Rattle.promises.proofs.Passing.{Changing, served-by, tears-closable, through-port, feed, through-merged, can-open, new-merged}
 

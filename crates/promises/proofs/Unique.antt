@@ -27,6 +27,8 @@ use Rattle.table.proofs.Places.{known}
 use Rattle.answer.proofs as answer
 use Rattle.steps.proofs as steps
 use Rattle.orders.proofs as orders
+use Rattle.closings.proofs as closings
+use Rattle.serving.proofs as serving
 use Rattle.satbox.proofs as satbox
 use Rattle.promises.proofs.Alike.{trimmed-same, SameLines, lines-same, parts-same, SameUri, uri-same, SameAim, aim-same, SameRequest, request-same}
 
@@ -244,6 +246,47 @@ steps-answer-to κs a x y v w = same
 -- ORDERS
 pub orders-frontend-order : Unique orders.frontend_order.ended orders.frontend_order.Reads.Post
 orders-frontend-order κs a x y v w = same
+
+-- CLOSINGS
+pub closings-write : Unique closings.write.ended closings.write.Reads.Post
+closings-write κs a x y v w p q = (refl, λ i. (one p q i, (tt, (tt, tt))))
+
+pub closings-one : Unique closings.one.ended closings.one.Reads.Post
+closings-one κs a x y v w = same
+
+pub closings-aged : Unique closings.aged.ended closings.aged.Reads.Post
+closings-aged κs a x y v w = same
+
+pub closings-is-any-expired : Unique closings.is_any_expired.ended closings.is_any_expired.Reads.Post
+closings-is-any-expired κs a x y v w = same
+
+pub closings-close-due : Unique closings.close_due.ended closings.close_due.Reads.Post
+closings-close-due κs a x y v w p q = (one (p .satbox) (q .satbox), λ i. (tt, (one (p .journal) (q .journal) i, (tt, tt))))
+
+-- SERVING
+pub serving-deny : Unique serving.deny.ended serving.deny.Reads.Post
+serving-deny κs a x y v w = same
+
+pub serving-case-of : Unique serving.case_of.ended serving.case_of.Reads.Post
+serving-case-of κs a x y v w = same
+
+pub serving-opens : Unique serving.opens.ended serving.opens.Reads.Post
+serving-opens κs a x y v w = same
+
+pub serving-merges : Unique serving.merges.ended serving.merges.Reads.Post
+serving-merges κs a x y v w = same
+
+pub serving-unmerged : Unique serving.unmerged.ended serving.unmerged.Reads.Post
+serving-unmerged κs a x y v w = same
+
+pub serving-turn-of : Unique serving.turn_of.ended serving.turn_of.Reads.Post
+serving-turn-of κs a x y v w = same
+
+pub serving-nothing : Unique serving.nothing.ended serving.nothing.Reads.Post
+serving-nothing κs a x y v w = same
+
+pub serving-offer-of : Unique serving.offer_of.ended serving.offer_of.Reads.Post
+serving-offer-of κs a x y v w = same
 
 -- SATBOX: a tick is lent the journal, collecting a buffer, and a request the answer's buffer and the journal
 pub satbox-tick : Unique satbox.tick.ended satbox.tick.Reads.Post

@@ -17,19 +17,19 @@ use Rattle.table.specs.declared.SatBox.{SatBox}
 use Rattle.steps.specs.Asked.{Asked, Lists, askedOf, listsOf}
 use Rattle.steps.specs.Sights.{portOf, sightOf}
 use Rattle.steps.specs.Steps.{isNamed}
-use Rattle.satbox.specs.Did.{Did, nothing, then, restreamed, reseated, noting}
-use Rattle.satbox.specs.Does.{Closable}
-use Rattle.satbox.specs.Closing.{closing, sweeping, atClock}
-use Rattle.satbox.specs.Opening.{guest, seating as seated, canJoin, joining, canOpen, opening}
-use Rattle.satbox.specs.Serving.{merging, merges, replaced, after, Serving, retuning, seating, grant, served}
-use Rattle.satbox.specs.Requests.{clientOf, answered, requested}
-use Rattle.satbox.specs.declared.opening.Client.{Client}
-use Rattle.satbox.proofs.Closings.{closing-fine, swept-fine}
-use Rattle.satbox.proofs.Keeping.{Whole, whole-roomy, clock-whole}
+use Rattle.closings.specs.Did.{Did, nothing, then, restreamed, reseated, noting}
+use Rattle.closings.specs.Does.{Closable}
+use Rattle.closings.specs.Closing.{closing, sweeping, atClock}
+use Rattle.serving.specs.Opening.{guest, seating as seated, canJoin, joining, canOpen, opening}
+use Rattle.serving.specs.Serving.{merging, merges, replaced, after, Serving, retuning, seating, grant, served, clientOf, answered}
+use Rattle.satbox.specs.Requests.{requested}
+use Rattle.serving.specs.declared.opening.Client.{Client}
+use Rattle.closings.proofs.Closings.{closing-fine, swept-fine}
+use Rattle.closings.proofs.Keeping.{Whole, whole-roomy, clock-whole}
 use Rattle.satbox.proofs.Kept.{sweeping-whole}
-use Rattle.satbox.proofs.RecordLaws.{Numbered, numbered-then, closing-numbered, swept-numbered, joining-numbered, opening-numbered}
-use Rattle.satbox.proofs.Passing.{Untested}
-use Rattle.satbox.proofs.Recorded.{Recorded, recorded-then, closing-recorded, swept-recorded, joining-recorded, opening-recorded}
+use Rattle.serving.proofs.RecordLaws.{Numbered, numbered-then, closing-numbered, swept-numbered, joining-numbered, opening-numbered}
+use Rattle.serving.proofs.Passing.{Untested}
+use Rattle.serving.proofs.Recorded.{Recorded, recorded-then, closing-recorded, swept-recorded, joining-recorded, opening-recorded}
 use Rattle.promises.proofs.Passing.{Changing, served-by, tears-closable}
 use Rattle.promises.proofs.Serving.{Fit, proper-client, new-sound}
 use Rattle.promises.proofs.Requests.{answered-by, Reads}

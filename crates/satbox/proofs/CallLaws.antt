@@ -19,25 +19,17 @@ use Rattle.table.specs.declared.Refusal.the-variants.{Table, Journal, Buffer}
 use Rattle.table.specs.declared.Outcome.{Outcome}
 use Rattle.table.specs.declared.Outcome.the-variants.{Done, Refused}
 use Rattle.table.proofs.Rules.{formed}
-use Rattle.satbox.specs.Does.{Does, Roomy}
-use Rattle.satbox.specs.Did.{bytesOf}
-use Rattle.satbox.specs.Closing.{isExpired, swept, sweeping, atClock}
-use Rattle.satbox.specs.DueAt.{closingDue, agedAt}
-use Rattle.satbox.specs.declared.closing.Due.{Due}
+use Rattle.closings.specs.Does.{Does}
+use Rattle.closings.specs.Did.{bytesOf}
+use Rattle.closings.specs.Closing.{isExpired, swept, sweeping, atClock}
+use Rattle.closings.specs.DueAt.{closingDue, agedAt}
+use Rattle.closings.specs.declared.Due.{Due}
 use Rattle.satbox.specs.Calls.{_else_andThen_, ifDone, tickOutcome, ticked, tickedJournal, emptied, collectOutcome, collected, collectedInto}
 use Rattle.satbox.specs.declared.Ticked.{Ticked}
 use Rattle.satbox.specs.declared.Collected.{Collected}
-use Rattle.satbox.proofs.DoesLaws.{does-as}
-use Rattle.satbox.proofs.Dues.{swept-aged, aged-range, does-idle}
-use Rattle.satbox.proofs.Keeping.{Whole, whole-roomy, clock-whole}
-use Rattle.satbox.proofs.Kept.{whole-formed}
-
--- a well-formed table of the code is whole, at any later clock too
-pub formed-whole : (t : SatBox) → wellFormed t ≡ true → length (t .sessions) ≡ 32 → length (t .streams) ≡ 8 → Whole t
-formed-whole t e a b = record { formed = formed t e; places = a; rows = b }
-
-pub clock-formed : {t u : SatBox} (clock : ℕ) → u ≡ atClock clock t → Whole t → wellFormed u ≡ true
-clock-formed {t} clock e w = rw e (whole-formed (atClock clock t) (clock-whole clock t w))
+use Rattle.closings.proofs.DoesLaws.{does-as}
+use Rattle.closings.proofs.Dues.{swept-aged, does-idle}
+use Rattle.closings.proofs.Keeping.{Whole, clock-whole}
 
 -- the table at the clock used, and swept there
 pub clock-set : (t : SatBox) (clock n : ℕ) → n ≡ max (t .clock) clock
@@ -47,15 +39,11 @@ clock-set t clock n e = rw e
 
 pub aged-swept : {t u r : SatBox} {j k : List ℕ} {due : Due} (clock : ℕ) → Whole t → u ≡ atClock clock t → due ≡ agedAt (u .clock) → Does u j (closingDue due u) r k → Does (atClock clock t) j (sweeping clock t) r k
 aged-swept {t} {u} {r} {j} {k} clock w e f p =
-    let q = does-as (ap (λ d. closingDue d u) f ∙ swept-aged u (subst Roomy (sym e) (whole-roomy (atClock clock t) (clock-whole clock t w)))) p in
+    let q = does-as (ap (λ d. closingDue d u) f ∙ swept-aged u (subst Whole (sym e) (clock-whole clock t w))) p in
     subst (λ x. Does x j (swept x) r k) e q
 
 pub idle-swept : {u : SatBox} {j : List ℕ} {b : Bool} (t : SatBox) (clock : ℕ) → u ≡ atClock clock t → b ≡ any (isExpired (u .clock)) (u .sessions) → b ≡ false → Does (atClock clock t) j (sweeping clock t) u j
 idle-swept {u} {j} t clock e f n = subst (λ x. Does x j (swept x) u j) e (does-idle (sym f ∙ n))
-
--- a closing's range
-pub aged-asked : {due : Due} (u : SatBox) → wellFormed u ≡ true → due ≡ agedAt (u .clock) → (wellFormed u ≡ true) × (due .first ≤ due .end) × (due .end ≤ 32)
-aged-asked u w e = let r = aged-range (u .clock) in (w, rw e (r .0), rw e (r .1))
 
 pub formed-held : (t : SatBox) → wellFormed t ≡ true → t .held ≤ t .size
 formed-held t e = omega (arith, formed t e .fits .bound)

@@ -12,23 +12,19 @@ use Rattle.stream.specs.declared.Stream.{Stream}
 use Rattle.stream.specs.declared.Outcome.the-variants.{Merged}
 use Rattle.stream.proofs.Keeping.{merge-sound, merge-frontend}
 use Rattle.table.specs.Table.{streamOf}
-use Rattle.table.specs.Formed.{areSizes, wellFormed}
+use Rattle.table.specs.Formed.{areSizes}
 use Rattle.table.specs.Made.{fresh}
 use Rattle.table.specs.declared.SatBox.{SatBox}
 use Rattle.table.specs.declared.Outcome.{Outcome}
 use Rattle.table.specs.declared.Outcome.the-variants.{Done, Refused}
-use Rattle.table.proofs.Rules.{formed, formed-back}
+use Rattle.table.proofs.Rules.{formed}
 use Rattle.table.proofs.Changes.{seats-fed, sound-at, rows-fed, by-id}
 use Rattle.table.proofs.Fresh.{fresh-formed}
-use Rattle.satbox.specs.Did.{restreamed}
-use Rattle.satbox.specs.Closing.{sweeping, atClock}
+use Rattle.closings.specs.Did.{restreamed}
+use Rattle.closings.specs.Closing.{sweeping, atClock}
 use Rattle.satbox.specs.Calls.{ifDone, ticked, tickOutcome, emptied, collected, collectOutcome}
-use Rattle.satbox.proofs.Closings.{with-length}
-use Rattle.satbox.proofs.Keeping.{Whole, swept-whole, clock-whole}
-
--- the test that the code computes, from the rules and back
-pub whole-formed : (t : SatBox) → Whole t → wellFormed t ≡ true
-whole-formed t w = formed-back t (w .formed)
+use Rattle.closings.proofs.Closings.{with-length}
+use Rattle.closings.proofs.Keeping.{Whole, swept-whole, clock-whole}
 
 -- A FRESH BOX
 pub fresh-whole : (frontends size : ℕ) → areSizes frontends size ≡ true → Whole (fresh frontends size)

@@ -18,14 +18,15 @@ use Rattle.table.specs.Table.{streamOf}
 use Rattle.table.specs.declared.Session.{Session}
 use Rattle.table.specs.declared.SatBox.{SatBox}
 use Rattle.table.proofs.Ids.{with-none, with-at}
-use Rattle.satbox.specs.Did.{restreamed, reseated, noting}
-use Rattle.satbox.specs.Does.{Does}
-use Rattle.satbox.specs.Closing.{closing}
-use Rattle.satbox.specs.Serving.{replaced}
-use Rattle.satbox.specs.Branches.{performed, settled, Performable, Settable, deniedAs}
-use Rattle.satbox.specs.declared.serving.Turn.{Turn}
+use Rattle.closings.specs.Did.{restreamed, reseated, noting}
+use Rattle.closings.specs.Does.{Does}
+use Rattle.closings.specs.Closing.{closing}
+use Rattle.serving.specs.Serving.{replaced}
+use Rattle.satbox.specs.Branches.{settled, Settable}
+use Rattle.serving.specs.Turns.{performed, Performable, deniedAs}
+use Rattle.serving.specs.declared.Turn.{Turn}
 use Rattle.steps.specs.declared.cases.Case.the-variants.{Passed}
-use Rattle.satbox.proofs.ServingLaws.{turn-denied}
+use Rattle.serving.proofs.ServingLaws.{turn-denied}
 
 -- the stream of an ID is set, and none at 0
 pub row-set : (t : SatBox) {u : SatBox} (id : ℕ) (m : Stream) → (id ≡ 0 → ⊥)

@@ -31,22 +31,23 @@ use Rattle.steps.specs.Steps.{isNamed, tableCase}
 use Rattle.steps.specs.Replies.{replyTo, replyText}
 use Rattle.steps.specs.declared.cases.Case.the-variants.{Passed, Reading, Combination, TooManyPids, Full}
 use Rattle.steps.proofs.ReplyLaws.{Follows, follows-passed, follows-refused, isReading, unread-chain, table-unread, reply-told, word-short, Numbers, reply-fits}
-use Rattle.satbox.specs.Does.{Does}
-use Rattle.satbox.specs.Closing.{swept, sweeping, atClock}
-use Rattle.satbox.specs.Serving.{Serving, merging, merges, isClash, isTooMany, opens, canSeat, changeCase, caseOf, denied, grant, served}
-use Rattle.satbox.specs.Did.{bytesOf}
+use Rattle.closings.specs.Does.{Does}
+use Rattle.closings.specs.Closing.{swept, sweeping, atClock}
+use Rattle.serving.specs.Serving.{Serving, merging, merges, isClash, isTooMany, opens, canSeat, changeCase, caseOf, denied, grant, served, clientOf, answered}
+use Rattle.closings.specs.Did.{bytesOf}
 use Rattle.satbox.specs.Calls.{_else_andThen_, ifDone}
-use Rattle.satbox.specs.Branches.{performed, TurnIs, Responds}
-use Rattle.satbox.specs.Requests.{clientOf, answered, requestOutcome, requested, answerOf, replied, repliedInto, repliedJournal}
-use Rattle.satbox.specs.declared.opening.Client.{Client}
-use Rattle.satbox.specs.declared.serving.Turn.{Turn}
+use Rattle.satbox.specs.Branches.{Responds}
+use Rattle.serving.specs.Turns.{performed, TurnIs}
+use Rattle.satbox.specs.Requests.{requestOutcome, requested, answerOf, replied, repliedInto, repliedJournal}
+use Rattle.serving.specs.declared.opening.Client.{Client}
+use Rattle.serving.specs.declared.Turn.{Turn}
 use Rattle.satbox.specs.declared.Replied.{Replied}
 use Rattle.satbox.specs.declared.Response.{Response}
 use Rattle.satbox.proofs.CallLaws.{done-first}
-use Rattle.satbox.proofs.DoesLaws.{does-then}
-use Rattle.satbox.proofs.Closings.{swept-fine}
-use Rattle.satbox.proofs.Keeping.{Whole, whole-roomy, clock-whole}
-use Rattle.satbox.proofs.Kept.{whole-formed, sweeping-whole}
+use Rattle.closings.proofs.DoesLaws.{does-then}
+use Rattle.closings.proofs.Closings.{swept-fine}
+use Rattle.closings.proofs.Keeping.{Whole, whole-roomy, clock-whole, whole-formed}
+use Rattle.satbox.proofs.Kept.{sweeping-whole}
 
 -- STEPS 11 TO 18 are none of the reading's
 change-unread : (t : SatBox) (a : Asked) (l : Lists) → isReading (changeCase t a l) ≡ false

@@ -1,10 +1,3 @@
-pub mod Did
-pub mod Does
-pub mod Stamps
-pub mod Closing
-pub mod DueAt
-pub mod Opening
 pub mod Calls
-pub mod Serving
 pub mod Requests
 pub mod Branches

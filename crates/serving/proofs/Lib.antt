@@ -1,0 +1,11 @@
+pub mod Openings
+pub mod OpeningKeeps
+pub mod RecordLaws
+pub mod Recorded
+pub mod Passing
+pub mod ServingLaws
+pub mod Branching
+pub mod Ends
+pub mod Turns
+pub mod Looking
+pub mod Taken

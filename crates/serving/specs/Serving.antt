@@ -1,0 +1,196 @@
+-- Document 01, "The answer, first that applies", steps 16 to 18, what a request does where nothing refuses it, and all eighteen in a row.
+-- Assumes nothing.
+use Prim.Native.Nat.{ℕ}
+use mathlib.Core.List.{List}
+use mathlib.Core.Bool.{Bool, true, false, not, cond, _&&_, _||_}
+use lib.Dec.{eqb}
+use lib.ListN.{getD, set}
+use Rattle.aim.specs.Refusals as reading
+use Rattle.aim.specs.declared.Method.{Method}
+use Rattle.aim.specs.declared.Method.the-variants.{Options, Setup, Play, Teardown, Other}
+use Rattle.reader.specs.Request.{requestRefusal}
+use Rattle.stream.specs.Streams.{blank}
+use Rattle.stream.specs.Merging.{mergeOf}
+use Rattle.stream.specs.declared.Stream.{Stream}
+use Rattle.stream.specs.declared.Change.{Change}
+use Rattle.stream.specs.declared.Outcome.{Outcome}
+use Rattle.stream.specs.declared.Outcome.the-variants.{Merged, Combination as Clash, TooMany}
+use Rattle.table.specs.Table.{noSession, streamOf, owns}
+use Rattle.table.specs.Finding.{lowestFrontend, lowestId}
+use Rattle.table.specs.declared.Session.{Session}
+use Rattle.table.specs.declared.SatBox.{SatBox}
+use Rattle.steps.specs.Asked.{Asked, Lists, askedOf, listsOf}
+use Rattle.steps.specs.Sights.{portOf, sightOf}
+use Rattle.steps.specs.Cases.{isPassed, _refuses_or_, orElse}
+use Rattle.steps.specs.Steps.{isSetup, isNamed, tableCase}
+use Rattle.steps.specs.declared.Sight.{Sight}
+use Rattle.steps.specs.declared.cases.Case.{Case}
+use Rattle.steps.specs.declared.cases.Case.the-variants.{Passed, Combination, TooManyPids, Full, Reading}
+use Rattle.closings.specs.Did.{Did, nothing, when, restreamed}
+use Rattle.closings.specs.Closing.{closing}
+use Rattle.serving.specs.Opening.{guest, canJoin, joining, canOpen, opening}
+use Rattle.serving.specs.declared.opening.Client.{Client}
+
+-- a new stream takes fe "and, without fe, the lowest free frontend"
+abbrev pub feedOf : SatBox → ℕ → ℕ
+feedOf t fe = cond (eqb fe 0) (lowestFrontend (t .frontends) (t .streams)) fe
+
+-- what a query is merged into: a new stream, or the one that is named
+abbrev pub unmerged : SatBox → Asked → Stream
+unmerged t a = cond (eqb (a .stream) 0) (blank (feedOf t (getD (a .codes) 1 0))) (streamOf t (a .stream))
+
+unfoldable pub merging : SatBox → Asked → Lists → Change
+merging t a l = mergeOf (unmerged t a) (a .codes) (l .pids) (l .delpids) (l .addpids)
+
+abbrev pub takesQuery : Method → Bool
+takesQuery Options = false
+takesQuery Setup = true
+takesQuery Play = true
+takesQuery Teardown = false
+takesQuery Other = false
+
+-- whose query is merged: a new stream's, and "the owner's"; "SETUP on a live stream without Session joins it, never owning it"
+abbrev pub merges : Sight → Bool
+merges v = takesQuery (v .method) && (eqb (v .stream) 0 || owns (v .stream) (v .session))
+
+abbrev pub isClash : Outcome → Bool
+isClash Merged = false
+isClash Clash = true
+isClash TooMany = false
+
+abbrev pub isTooMany : Outcome → Bool
+isTooMany Merged = false
+isTooMany Clash = false
+isTooMany TooMany = true
+
+-- an opening is a SETUP without a session
+abbrev pub opens : Sight → Bool
+opens v = isSetup (v .method) && not (isNamed v)
+
+-- not "no free session place; a new stream whose fe is held, or with no fe and no frontend free; or bytes held + 16 × open + 32 > C"
+abbrev pub canSeat : SatBox → Sight → Bool
+canSeat t v = cond (eqb (v .stream) 0) (canOpen (feedOf t (v .fe)) t) (canJoin (v .stream) t)
+
+-- 16: "Combination rule broken"; 17: "More than 32 PIDs after merging"; 18: "Opening: .."
+unfoldable pub changeCase : SatBox → Asked → Lists → Case
+changeCase t a l =
+    (merges (sightOf t a) && isClash (merging t a l .outcome)) refuses Combination or
+    (merges (sightOf t a) && isTooMany (merging t a l .outcome)) refuses TooManyPids or
+    (opens (sightOf t a) && not (canSeat t (sightOf t a))) refuses Full or
+    Passed
+
+-- THE CASE of a request that steps 1 to 10 let through
+unfoldable pub caseOf : SatBox → Asked → Lists → Case
+caseOf t a l = orElse (tableCase (sightOf t a)) (changeCase t a l)
+
+-- WHAT IS DONE: to a session, which is changed in its place; nothing is written of it
+unfoldable pub replaced : ℕ → Session → SatBox → SatBox
+replaced place s t =
+    record {
+      sessions = set (t .sessions) place s;
+      streams = t .streams;
+      size = t .size;
+      held = t .held;
+      clock = t .clock;
+      sequence = t .sequence;
+      frontends = t .frontends;
+    }
+
+-- "an OPTIONS naming an open session set the last time to the clock"
+abbrev pub refreshed : ℕ → Session → Session
+refreshed clock s =
+    record {
+      number = s .number;
+      address = s .address;
+      last = clock;
+      port = s .port;
+      stream = s .stream;
+      owner = s .owner;
+      playing = s .playing;
+    }
+
+-- "SETUP in a session replaces only the port"
+abbrev pub atPort : ℕ → Session → Session
+atPort port s =
+    record {
+      number = s .number;
+      address = s .address;
+      last = s .last;
+      port = port;
+      stream = s .stream;
+      owner = s .owner;
+      playing = s .playing;
+    }
+
+-- "marks the session playing"
+abbrev pub playing : Session → Session
+playing s =
+    record {
+      number = s .number;
+      address = s .address;
+      last = s .last;
+      port = s .port;
+      stream = s .stream;
+      owner = s .owner;
+      playing = 1;
+    }
+
+-- the session after a SETUP or a PLAY that names it
+abbrev pub after : Sight → Session
+after v = cond (isSetup (v .method)) (atPort (v .port) (v .session)) (playing (v .session))
+
+-- what a request does, and the session that its answer is about
+pub record Serving : Type 0 where
+  pub did : Did
+  pub session : Session
+  pub case : Case
+
+abbrev pub granted : Did → Session → Serving
+granted d s = record { did = d; session = s; case = Passed }
+
+-- a session that is named has its last time set; OPTIONS without one does nothing
+abbrev pub keeping : SatBox → Sight → Serving
+keeping t v =
+    granted (when (isNamed v) (nothing (replaced (v .place) (refreshed (t .clock) (v .session)) t)) t) (v .session)
+
+-- "for the owner, merges the query"; "PLAY merges the owner's query and marks the session playing"
+abbrev pub retuned : SatBox → Asked → Lists → SatBox
+retuned t a l = cond (merges (sightOf t a)) (restreamed (a .stream) (merging t a l .stream) t) t
+
+abbrev pub retuning : SatBox → Asked → Lists → Serving
+retuning t a l =
+    granted (nothing (replaced (sightOf t a .place) (after (sightOf t a)) (retuned t a l))) (after (sightOf t a))
+
+-- a SETUP without a session: a new stream, or one that is live
+abbrev pub seating : SatBox → Asked → Lists → Client → Serving
+seating t a l client =
+    cond (eqb (a .stream) 0)
+    (granted (opening (merging t a l .stream) client t) (guest 1 (lowestId (t .streams)) client t))
+    (granted (joining (a .stream) client t) (guest 0 (a .stream) client t))
+
+-- "TEARDOWN closes": cause 1
+abbrev pub grant : Method → SatBox → Asked → Lists → Client → Serving
+grant Options t a l client = keeping t (sightOf t a)
+grant Setup t a l client = cond (isNamed (sightOf t a)) (retuning t a l) (seating t a l client)
+grant Play t a l client = retuning t a l
+grant Teardown t a l client = granted (closing 1 (sightOf t a .place) t) (sightOf t a .session)
+grant Other t a l client = granted (nothing t) noSession
+
+-- "A status other than 200 changes nothing"
+abbrev pub denied : SatBox → Case → Serving
+denied t case = record { did = nothing t; session = noSession; case = case }
+
+-- A REQUEST that steps 1 to 10 let through
+unfoldable pub served : SatBox → Asked → Lists → Client → Serving
+served t a l client = cond (isPassed (caseOf t a l)) (grant (a .method) t a l client) (denied t (caseOf t a l))
+
+-- who asks: "the client's IPv4 address and a 32-bit draw", and the port of the Transport header
+abbrev pub clientOf : ℕ → ℕ → Asked → Client
+clientOf address draw a = record { address = address; port = portOf (a .transport); draw = draw }
+
+-- steps 1 to 18, on a table that was swept
+unfoldable pub answered : List ℕ → ℕ → ℕ → SatBox → Serving
+answered s address draw t =
+    cond (reading.isPassed (requestRefusal (t .frontends) s))
+    (served t (askedOf (t .frontends) s) (listsOf s) (clientOf address draw (askedOf (t .frontends) s)))
+    (denied t (Reading (requestRefusal (t .frontends) s)))

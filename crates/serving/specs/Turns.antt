@@ -1,0 +1,217 @@
+-- What a request comes to, as the few numbers that its change needs: what an opening would take, and its turn, beside the meaning's. Assumes
+-- nothing.
+use Prim.Native.Nat.{ℕ, _+_, _≤_, _<_}
+use mathlib.Core.Path.{_≡_}
+use mathlib.Core.Bool.{Bool, true, false, not, cond, _&&_}
+use mathlib.Core.List.{List}
+use lib.Dec.{eqb, ltb}
+use lib.ListN.{length, getD}
+use Rattle.aim.specs.Refusals as reading
+use Rattle.aim.specs.declared.Method.{Method}
+use Rattle.aim.specs.declared.Method.the-variants.{Options, Setup, Play, Teardown, Other}
+use Rattle.aim.specs.declared.refusals.Refusal.{Refusal}
+use Rattle.reader.specs.Request.{RequestIs}
+use Rattle.reader.specs.declared.Request.{Request}
+use Rattle.stream.specs.Streams.{noStream, blank}
+use Rattle.stream.specs.declared.Stream.{Stream}
+use Rattle.stream.specs.declared.Change.{Change}
+use Rattle.stream.specs.declared.Outcome.{Outcome}
+use Rattle.stream.specs.declared.Outcome.the-variants.{Merged, Combination as Clash, TooMany}
+use Rattle.table.specs.Table.{noSession, streamOf, owns}
+use Rattle.table.specs.Formed.{wellFormed}
+use Rattle.table.specs.Finding.{lowestPlace, lowestId}
+use Rattle.table.specs.declared.SatBox.{SatBox}
+use Rattle.table.specs.declared.Session.{Session}
+use Rattle.steps.specs.Asked.{askedBy, Told}
+use Rattle.steps.specs.Cases.{isPassed}
+use Rattle.steps.specs.Sights.{sightOf}
+use Rattle.steps.specs.Steps.{isNamed, tableCase}
+use Rattle.steps.specs.declared.Sight.{Sight}
+use Rattle.steps.specs.declared.cases.Case.{Case}
+use Rattle.steps.specs.declared.cases.Case.the-variants.{Passed, Combination, TooManyPids, Full, Reading}
+use Rattle.closings.specs.Did.{Did, nothing, restreamed, noting}
+use Rattle.closings.specs.Does.{Closable}
+use Rattle.closings.specs.Closing.{closing}
+use Rattle.serving.specs.Opening.{hasPlace, hasRoom, guest, canOpen}
+use Rattle.serving.specs.Serving.{Serving, feedOf, takesQuery, merges, opens, replaced, refreshed, after}
+use Rattle.serving.specs.declared.opening.Client.{Client}
+use Rattle.serving.specs.declared.opening.Offer.{Offer}
+use Rattle.serving.specs.declared.Turn.{Turn}
+
+-- WHAT AN OPENING WOULD TAKE: on a new stream, or on the one that is named
+abbrev pub noOffer : Offer
+noOffer = record { seat = noSession; place = 32; feed = 0; whole = false }
+
+abbrev pub guestOf : Client → ℕ → ℕ → ℕ → ℕ → Session
+guestOf client number clock id owner =
+    record {
+      number = number;
+      address = client .address;
+      last = clock;
+      port = client .port;
+      stream = id;
+      owner = owner;
+      playing = 0;
+    }
+
+abbrev pub newOffer : SatBox → ℕ → Client → Offer
+newOffer t feed client =
+    record {
+      seat = guest 1 (lowestId (t .streams)) client t;
+      place = lowestPlace (t .sessions);
+      feed = feed;
+      whole = canOpen feed t;
+    }
+
+abbrev pub liveOffer : SatBox → ℕ → ℕ → Client → Offer
+liveOffer t id feed client =
+    record {
+      seat = guest 0 id client t;
+      place = lowestPlace (t .sessions);
+      feed = feed;
+      whole = hasPlace t && (not (eqb feed 0) && hasRoom t);
+    }
+
+-- an ID and a frontend have eight bits; a larger number is none of either
+abbrev pub small : ℕ → ℕ
+small n = cond (ltb n 256) n 0
+
+abbrev pub offerOf : SatBox → Sight → Client → Offer
+offerOf t v client =
+    cond (eqb (v .stream) 0) (newOffer t (small (feedOf t (v .fe))) client) (liveOffer t (small (v .stream)) (v .frontend) client)
+
+-- TURNS: a refusal; a session changed in its place; one whose stream is set too; one that opens, where nothing is lacking; one that closes
+abbrev pub deniedAs : Case → Turn
+deniedAs case =
+    record { stream = noStream; seat = noSession; session = noSession; place = 32; id = 0; kind = 0; case = case }
+
+abbrev pub reseatedAs : ℕ → Session → Session → Turn
+reseatedAs place seat session =
+    record { stream = noStream; seat = seat; session = session; place = place; id = 0; kind = 0; case = Passed }
+
+abbrev pub retunedAs : Sight → Stream → Turn
+retunedAs v m =
+    record { stream = m; seat = after v; session = after v; place = v .place; id = v .stream; kind = 0; case = Passed }
+
+abbrev pub openedAs : Offer → ℕ → ℕ → Stream → Turn
+openedAs o kind id m =
+    record { stream = m; seat = o .seat; session = o .seat; place = o .place; id = id; kind = kind; case = Passed }
+
+abbrev pub seatedAs : Offer → ℕ → ℕ → Stream → Turn
+seatedAs o kind id m = cond (o .whole) (openedAs o kind id m) (deniedAs Full)
+
+abbrev pub leftAs : Sight → Turn
+leftAs v =
+    record { stream = noStream; seat = noSession; session = v .session; place = v .place; id = 0; kind = 3; case = Passed }
+
+-- a turn that rests on a merged query
+abbrev pub ifMerged : Outcome → Turn → Turn
+ifMerged Merged x = x
+ifMerged Clash x = deniedAs Combination
+ifMerged TooMany x = deniedAs TooManyPids
+
+-- a SETUP for a new stream, and a SETUP or a PLAY of an open session, where c is what its query was merged to
+unfoldable pub openedBy : Change → Offer → Turn
+openedBy c o = ifMerged (c .outcome) (seatedAs o 1 (o .seat .stream) (c .stream))
+
+unfoldable pub retunedBy : Sight → Change → Turn
+retunedBy v c =
+    cond (owns (v .stream) (v .session)) (ifMerged (c .outcome) (retunedAs v (c .stream))) (reseatedAs (v .place) (after v) (after v))
+
+unfoldable pub setUpBy : Sight → Change → Offer → Turn
+setUpBy v c o = cond (isNamed v) (retunedBy v c) (cond (eqb (v .stream) 0) (openedBy c o) (seatedAs o 2 0 noStream))
+
+abbrev pub methodTurn : Method → Sight → Change → Offer → ℕ → Turn
+methodTurn Options v c o clock = reseatedAs (v .place) (refreshed clock (v .session)) (v .session)
+methodTurn Setup v c o clock = setUpBy v c o
+methodTurn Play v c o clock = retunedBy v c
+methodTurn Teardown v c o clock = leftAs v
+methodTurn Other v c o clock = deniedAs Passed
+
+-- THE TURN of a request that steps 1 to 15 let through or refused
+unfoldable pub turnBy : Sight → Change → Offer → Case → ℕ → Turn
+turnBy v c o case clock = cond (isPassed case) (methodTurn (v .method) v c o clock) (deniedAs case)
+
+-- what a turn does: kind 3 closes; else the stream is set, and then the session in its place, with a record where there is a kind
+abbrev pub seated : Turn → SatBox → Did
+seated x t =
+    cond (eqb (x .kind) 0)
+    (nothing (replaced (x .place) (x .seat) t))
+    (noting (x .kind) 0 (x .seat) (x .place) (x .seat) t)
+
+unfoldable pub performed : Turn → SatBox → Did
+performed x t = cond (eqb (x .kind) 3) (closing 1 (x .place) t) (seated x (restreamed (x .id) (x .stream) t))
+
+-- and that it can be done: what is set is of the table, and there is room for what is written
+pub record Seatable (t : SatBox) (x : Turn) : Type 0 where
+  pub below : x .place < 32
+  pub room : t .held + 16 ≤ t .size
+  pub least : 1 ≤ x .seat .stream
+  pub most : x .seat .stream ≤ 8
+
+pub record Performable (t : SatBox) (x : Turn) : Type 0 where
+  pub id : x .id ≤ 8
+  pub none : x .kind ≡ 3 → x .id ≡ 0
+  pub closes : x .kind ≡ 3 → Closable t (x .place)
+  pub seats : (x .kind ≡ 0 → ⊥) → (x .kind ≡ 3 → ⊥) → Seatable t x
+
+-- the turn x is the meaning y on the table t
+pub record TurnIs (t : SatBox) (y : Serving) (x : Turn) : Type 0 where
+  pub did : performed x t ≡ y .did
+  pub session : x .session ≡ y .session
+  pub case : x .case ≡ y .case
+  pub can : Performable t x
+
+-- HOW FAR IT HAS COME: a request that was read, on a well-formed table with all its places
+pub record Servable (t : SatBox) (s : List ℕ) (r : Request) : Type 0 where
+  pub formed : wellFormed t ≡ true
+  pub places : length (t .sessions) ≡ 32
+  pub rows : length (t .streams) ≡ 8
+  pub told : Told s r
+  pub fe : getD (r .codes) 1 0 ≤ t .frontends
+
+-- steps 11 to 15 let it through
+pub record Through (t : SatBox) (s : List ℕ) (r : Request) (v : Sight) : Type 0 where
+  pub servable : Servable t s r
+  pub sight : v ≡ sightOf t (askedBy r)
+  pub passed : tableCase v ≡ Passed
+
+-- it opens a session on a new stream, or on a live one
+pub record Opens (t : SatBox) (s : List ℕ) (r : Request) (v : Sight) : Type 0 where
+  pub through : Through t s r v
+  pub setup : v .method ≡ Setup
+  pub stranger : isNamed v ≡ false
+
+-- it is a SETUP or a PLAY of an open session
+pub record Retunes (t : SatBox) (s : List ℕ) (r : Request) (v : Sight) : Type 0 where
+  pub through : Through t s r v
+  pub takes : takesQuery (v .method) ≡ true
+  pub named : isNamed v ≡ true
+
+-- the stream that it names was looked up, where that is live
+abbrev pub Found : SatBox → Sight → Stream → Type 0
+Found t v m = (v .frontend ≡ 0 → ⊥) → m ≡ streamOf t (v .stream)
+
+-- the first of steps 1 to 15 that refuses it
+abbrev pub firstCase : Refusal → Sight → Case
+firstCase refusal v = cond (reading.isPassed refusal) (tableCase v) (Reading refusal)
+
+abbrev pub opensNow : Case → Sight → Bool
+opensNow case v = isPassed case && opens v
+
+-- whether its query is merged, and into which stream: a new one, or the one that it names
+abbrev pub mergesNow : Case → Sight → Bool
+mergesNow case v = isPassed case && merges v
+
+abbrev pub unmergedBy : Sight → Stream → Offer → Stream
+unmergedBy v m o = cond (eqb (v .stream) 0) (blank (o .feed)) m
+
+-- a request as it was read, and what was looked up for it
+pub record Looks (t : SatBox) (s : List ℕ) (r : Request) (v : Sight) (m : Stream) (case : Case) : Type 0 where
+  pub formed : wellFormed t ≡ true
+  pub places : length (t .sessions) ≡ 32
+  pub rows : length (t .streams) ≡ 8
+  pub is : RequestIs (t .frontends) s r
+  pub sight : v ≡ sightOf t (askedBy r)
+  pub first : case ≡ firstCase (r .refusal) v
+  pub stream : Found t v m

@@ -1,0 +1,269 @@
+// What a request comes to once it was read: steps 11 to 18, and the change where none of them refuses. Nothing here changes a table: what is
+// needed of it is looked up before, and a turn says in few numbers what is to change.
+mod opening;
+
+pub use opening::Client;
+pub use opening::Offer;
+pub use opening::nothing;
+pub use opening::offer_of;
+ghost use mathlib.Core.Path.{_≡_};
+ghost use Rattle.serving.specs.Serving.{refreshed, atPort, playing, after};
+ghost use Rattle.serving.specs.Turns.{deniedAs, reseatedAs, seatedAs, leftAs, openedBy, retunedBy, setUpBy, turnBy, firstCase, opensNow, mergesNow, unmergedBy};
+use aim::Method;
+use steps::Case;
+use steps::Sight;
+use stream::Change;
+use stream::Outcome;
+use stream::Stream;
+use table::SatBox;
+use table::Session;
+
+// What a request comes to: why it was refused, and the session that its answer is about, none where it was refused. And the change: the
+// stream of an ID, none at 0; the session that then has a place, none at 32; and the kind of the record, 0 where none is written.
+pub struct Turn {
+    pub stream: Stream,
+    pub seat: Session,
+    pub session: Session,
+    pub place: usize,
+    pub id: u32,
+    pub kind: u8,
+    pub case: Case,
+}
+
+pub fn deny(case: Case) -> Turn
+    ensures { λ r. ⌜ r ≡ deniedAs case ⌝ }
+{
+    Turn {
+        stream: Stream::NONE,
+        seat: Session::NONE,
+        session: Session::NONE,
+        place: SatBox::SESSIONS,
+        id: 0,
+        kind: 0,
+        case,
+    }
+}
+
+// A session that is changed in its place; the answer is about `session`.
+fn reseat(place: usize, seat: Session, session: Session) -> Turn
+    ensures { λ r. ⌜ r ≡ reseatedAs place seat session ⌝ }
+{
+    Turn {
+        stream: Stream::NONE,
+        seat,
+        session,
+        place,
+        id: 0,
+        kind: 0,
+        case: Case::Passed,
+    }
+}
+
+// A session that opens, on a new stream of an ID or, at ID 0, on one that is live.
+fn seat(o: Offer, kind: u8, id: u32, m: Stream) -> Turn
+    ensures { λ r. ⌜ r ≡ seatedAs o kind id m ⌝ }
+{
+    if !o.whole {
+        return deny(Case::Full);
+    }
+    let s = o.seat;
+    Turn {
+        stream: m,
+        seat: s,
+        session: s,
+        place: o.place,
+        id,
+        kind,
+        case: Case::Passed,
+    }
+}
+
+// A SETUP for a new stream.
+fn open_stream(change: Change, o: Offer) -> Turn
+    ensures { λ x. ⌜ x ≡ openedBy change o ⌝ }
+{
+    let outcome = change.outcome;
+    let session = o.seat;
+    match outcome {
+        Outcome::Combination => deny(Case::Combination),
+        Outcome::TooMany => deny(Case::TooManyPids),
+        Outcome::Merged => seat(o, 1, session.stream as u32, change.stream),
+    }
+}
+
+fn at_port(s: Session, port: u32) -> Session
+    ensures { λ r. ⌜ r ≡ atPort port s ⌝ }
+{
+    let mut u = s;
+    u.port = port;
+    u
+}
+
+fn play(s: Session) -> Session
+    ensures { λ r. ⌜ r ≡ playing s ⌝ }
+{
+    let mut u = s;
+    u.playing = 1;
+    u
+}
+
+// The session after a SETUP or a PLAY that names it.
+fn after(v: Sight) -> Session
+    ensures { λ r. ⌜ r ≡ after v ⌝ }
+{
+    let method = v.method;
+    let s = v.session;
+    match method {
+        Method::Setup => at_port(s, v.port),
+        Method::Options => play(s),
+        Method::Play => play(s),
+        Method::Teardown => play(s),
+        Method::Other => play(s),
+    }
+}
+
+// A SETUP or a PLAY of an open session: its owner's query is merged into its stream.
+fn retune(v: Sight, change: Change) -> Turn
+    ensures { λ x. ⌜ x ≡ retunedBy v change ⌝ }
+{
+    let session = v.session;
+    let next = after(v);
+    if !table::owns(session, v.stream) {
+        return reseat(v.place, next, next);
+    }
+    let outcome = change.outcome;
+    match outcome {
+        Outcome::Combination => deny(Case::Combination),
+        Outcome::TooMany => deny(Case::TooManyPids),
+        Outcome::Merged => {
+            let stream = change.stream;
+            Turn {
+                stream,
+                seat: next,
+                session: next,
+                place: v.place,
+                id: v.stream,
+                kind: 0,
+                case: Case::Passed,
+            }
+        }
+    }
+}
+
+fn refresh(s: Session, clock: u32) -> Session
+    ensures { λ r. ⌜ r ≡ refreshed clock s ⌝ }
+{
+    let mut u = s;
+    u.last = clock;
+    u
+}
+
+// An OPTIONS: a session that it names has its last time set.
+fn keep(v: Sight, clock: u32) -> Turn
+    ensures { λ r. ⌜ r ≡ reseatedAs (v .place) (refreshed clock (v .session)) (v .session) ⌝ }
+{
+    let session = v.session;
+    reseat(v.place, refresh(session, clock), session)
+}
+
+// A TEARDOWN.
+fn leave(v: Sight) -> Turn
+    ensures { λ r. ⌜ r ≡ leftAs v ⌝ }
+{
+    let session = v.session;
+    Turn {
+        stream: Stream::NONE,
+        seat: Session::NONE,
+        session,
+        place: v.place,
+        id: 0,
+        kind: 3,
+        case: Case::Passed,
+    }
+}
+
+// A SETUP: in a session, for a new stream, or on a live one.
+fn set_up(v: Sight, change: Change, o: Offer) -> Turn
+    ensures { λ x. ⌜ x ≡ setUpBy v change o ⌝ }
+{
+    if v.place < SatBox::SESSIONS {
+        return retune(v, change);
+    }
+    if v.stream == 0 {
+        return open_stream(change, o);
+    }
+    seat(o, 2, 0, Stream::NONE)
+}
+
+// The first of steps 1 to 15 that refuses, of which those to 10 were read.
+pub fn case_of(refusal: aim::Refusal, v: Sight) -> Case
+    ensures { λ c. ⌜ c ≡ firstCase refusal v ⌝ }
+{
+    if !aim::is_passed(refusal) {
+        return Case::Reading(refusal);
+    }
+    steps::case_of(v)
+}
+
+// Whether a request that went through those asks for a session to be opened.
+pub fn opens(case: Case, v: Sight) -> bool
+    ensures { λ b. ⌜ b ≡ opensNow case v ⌝ }
+{
+    if !steps::is_passed(case) {
+        return false;
+    }
+    let method = v.method;
+    match method {
+        Method::Options => false,
+        Method::Setup => !(v.place < SatBox::SESSIONS),
+        Method::Play => false,
+        Method::Teardown => false,
+        Method::Other => false,
+    }
+}
+
+// Whether its query is merged into a stream: a new one's, and its owner's.
+pub fn merges(case: Case, v: Sight) -> bool
+    ensures { λ b. ⌜ b ≡ mergesNow case v ⌝ }
+{
+    if !steps::is_passed(case) {
+        return false;
+    }
+    let session = v.session;
+    let takes = (v.stream == 0) | table::owns(session, v.stream);
+    let method = v.method;
+    match method {
+        Method::Options => false,
+        Method::Setup => takes,
+        Method::Play => takes,
+        Method::Teardown => false,
+        Method::Other => false,
+    }
+}
+
+// Into which one: a new one, or the stream m that it names.
+pub fn unmerged(v: Sight, m: Stream, o: Offer) -> Stream
+    ensures { λ r. ⌜ r ≡ unmergedBy v m o ⌝ }
+{
+    if v.stream == 0 {
+        return Stream::blank(o.feed);
+    }
+    m
+}
+
+// What a request comes to: `change` is what its query was merged to, o what an opening would take.
+pub fn turn_of(v: Sight, change: Change, o: Offer, case: Case, clock: u32) -> Turn
+    ensures { λ x. ⌜ x ≡ turnBy v change o case clock ⌝ }
+{
+    if !steps::is_passed(case) {
+        return deny(case);
+    }
+    let method = v.method;
+    match method {
+        Method::Options => keep(v, clock),
+        Method::Setup => set_up(v, change, o),
+        Method::Play => retune(v, change),
+        Method::Teardown => leave(v),
+        Method::Other => deny(Case::Passed),
+    }
+}
