@@ -41,6 +41,15 @@
 #define SATBOX_TIMEOUT 60u              /* seconds: a session of this age is expired, one of 59 is not */
 #define SATBOX_CLOCK_MAX 4294967295u    /* here time stands still: no session opened now ever expires */
 
+/* Bytes of stack that each call takes below its caller's, with its arguments there and its return address. */
+#define SATBOX_STACK_REQUEST 7432u
+#define SATBOX_STACK_TICK 3480u
+#define SATBOX_STACK_ORDER 3528u
+#define SATBOX_STACK_COLLECT 3464u
+#define SATBOX_STACK_MAKE 1560u
+#define SATBOX_STACK_WRITE_RECORD 100u
+#define SATBOX_STACK_READ_RECORD 65u
+
 /* Refusals. */
 #define SATBOX_DONE 0u
 #define SATBOX_REFUSED_TABLE 1u         /* the box is not well formed: never made, or its bytes were changed */

@@ -8,20 +8,28 @@
 #include <stdint.h>
 #include <string.h>
 
-/* Where Linux keeps the instruction pointer in what a handler is shown on x86-64. */
-enum { POINTER_AT = 168 };
+/* Where Linux keeps the stack pointer and the instruction pointer in what a handler is shown on x86-64. */
+enum { STACK_AT = 160, POINTER_AT = 168 };
 
 static volatile unsigned long steps;
 static volatile uintptr_t last;
 /* Those of starting and stopping themselves. */
 static unsigned long own;
+/* The function whose stack is looked at, and its stack pointer when it was entered and at its lowest; 0 before it is entered. */
+static uintptr_t watched;
+static volatile uintptr_t entered, lowest;
 
 static void stepped(int number, siginfo_t *info, void *shown)
 {
-    uintptr_t pointer;
+    uintptr_t pointer, stack;
     (void)number;
     (void)info;
     memcpy(&pointer, (const char *)shown + POINTER_AT, sizeof pointer);
+    memcpy(&stack, (const char *)shown + STACK_AT, sizeof stack);
+    if (pointer == watched && entered == 0)
+        entered = lowest = stack;
+    if (stack < lowest)
+        lowest = stack;
     if (pointer != last)
         steps++;
     last = pointer;
@@ -51,6 +59,7 @@ void steps_start(void)
 {
     steps = 0;
     last = 0;
+    entered = lowest = 0;
     steps_trap();
 }
 
@@ -58,4 +67,14 @@ unsigned long steps_stop(void)
 {
     steps_untrap();
     return steps - own;
+}
+
+void steps_watch(void (*entry)(void))
+{
+    memcpy(&watched, &entry, sizeof watched);
+}
+
+size_t steps_depth(void)
+{
+    return entered == 0 ? 0 : entered - lowest + sizeof(uintptr_t);
 }

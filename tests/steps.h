@@ -6,6 +6,7 @@
 #define STEPS_H
 
 #include <stdbool.h>
+#include <stddef.h>
 
 /* To be called once, before the first count. False where the machine hands no such trap on: then there is nothing to count by. */
 bool steps_prepare(void);
@@ -13,5 +14,10 @@ bool steps_prepare(void);
 /* Counts from the one to the other. A repeated instruction (rep) counts once. */
 void steps_start(void);
 unsigned long steps_stop(void);
+
+/* Whose stack is looked at from the next start on; and, after the stop, how far the stack pointer went below where it stood before that
+ * function was called, its return address included and arguments on the stack not. 0 where it was not called. */
+void steps_watch(void (*entry)(void));
+size_t steps_depth(void);
 
 #endif
