@@ -1,6 +1,6 @@
 -- Truth values: a test and two numbers by their cases, what tests say together, and that none is both true and false. Assumes nothing.
 use mathlib.Core.Path.{_≡_, refl}
-use mathlib.Core.Bool.{Bool, true, false, cond, not, _&&_, _||_}
+use mathlib.Core.Bool.{Bool, true, false, cond, _&&_, _||_}
 use Prim.Native.Nat.{ℕ}
 use native.Mathlib.Omega.{arith}
 use lib.Dec.{eqb}
@@ -61,14 +61,6 @@ cond-keeps P false v w h k = k refl
 pub and-and : (a b c : Bool) → a && (b && c) ≡ (a && b) && c
 and-and true b c = refl
 and-and false b c = refl
-
-pub not-false : (a : Bool) → not a ≡ false → a ≡ true
-not-false true e = refl
-not-false false e = never refl e
-
-pub and-true : (a : Bool) → a && true ≡ a
-and-true true = refl
-and-true false = refl
 
 pub or-right : (a : Bool) {b : Bool} → b ≡ true → a || b ≡ true
 or-right true e = refl

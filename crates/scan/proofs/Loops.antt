@@ -2,15 +2,16 @@
 -- law for its start, for a turn and for each way out; a turn's test is told as the equation that the test's contract gives.
 -- Assumes nothing.
 use mathlib.Core.Path.{_≡_, refl, ap, ap₂, _∙_, sym}
-use mathlib.Core.Bool.{Bool, true, false, cond, not, _&&_}
+use mathlib.Core.Bool.{Bool, true, false, cond, not, _&&_, and-true}
 use mathlib.Core.List.{List, [], _∷_}
 use Prim.Native.Nat.{ℕ, zero, suc, _+_, _-_, _≤_, _<_}
 use native.Mathlib.Numerals.{add-one}
 use native.Mathlib.Omega.{arith}
 use lib.ListN.{length, getD, take, drop, length-drop, drop-of-length-le}
 use lib.Seq.{drop-cons, drop-drop}
-use Rattle.scan.specs.Lists.{all, first, FirstOf, FirstFrom, Passed, part}
-use Rattle.scan.proofs.Bools.{and-and, and-both, and-true, not-false}
+use borrow.Author.Tests.{not-false}
+use Rattle.scan.specs.Lists.{all, first, FirstOf, FirstFrom, part}
+use Rattle.scan.proofs.Bools.{and-and, and-both}
 use Rattle.scan.proofs.Parts.{part-rest}
 
 -- what any function says of the rest at i: it goes by the element at i and the rest at i + 1, and there is nothing at the end
@@ -50,9 +51,6 @@ module _ {A : Type 0} (p : A → Bool) where
   pub seeking-at : {l : List A} {i j : ℕ} → Seeking l i → i ≡ j → Seeking l j
   seeking-at s e = record { inside = omega (arith, s .inside); same = rw (sym e) (s .same) }
 
-  pub seeking-passed : {l : List A} {i : ℕ} → Seeking l i → Passed p l i
-  seeking-passed s = record { inside = s .inside; same = s .same }
-
   -- every element before place i passes
   pub record Passing (l : List A) (i : ℕ) : Type 0 where
     pub inside : i ≤ length l
@@ -72,8 +70,7 @@ module _ {A : Type 0} (p : A → Bool) where
     pub passing-not : t ≡ false → false ≡ all p l
     passing-not n = sym (turn (all p) l i d h ∙ rw (sym e ∙ n)) ∙ s .same
 
--- `t` says whether every element before place i passes
-module _ {A : Type 0} (p : A → Bool) where
+  -- t says whether every element before place i passes
   pub record Telling (l : List A) (t : Bool) (i : ℕ) : Type 0 where
     pub inside : i ≤ length l
     pub same : t && all p (drop i l) ≡ all p l
@@ -126,14 +123,11 @@ module _ {A : Type 0} (p : A → Bool) (l : List A) (at : ℕ) where
       let w : k ≤ length (drop at l) = rw r at (f .within) in
       record { is = omega arith; from = omega arith; within = omega arith }
 
-  -- what is found past elements that do not pass is found
-  pub passed-first : {k : ℕ} → Passed p l at → FirstOf p (part at (length l) l) k → FirstOf p l (at + k)
-  passed-first {k} t f =
-      let r : part at (length l) l ≡ drop at l = part-rest at (length l) l (omega arith) in
-      let n : length (drop at l) ≡ length l - at = length-drop at l in
-      let q : k ≡ first p (drop at l) = f .is ∙ ap (first p) r in
-      let w : k ≤ length (drop at l) = rw r at (f .within) in
-      record { is = omega (arith, t .same); within = omega (arith, t .inside) }
+  -- what is sought is found in the rest
+  pub seeking-rest : {k : ℕ} → Seeking p l at → FirstOf p (part at (length l) l) k → FirstOf p l (at + k)
+  seeking-rest s f =
+      let g = first-rest (s .inside) f in
+      record { is = g .is ∙ s .same; within = omega (arith, s .inside, g .within) }
 
 -- the first place that passes is at most the length
 pub first-within : {A : Type 0} (p : A → Bool) (l : List A) → first p l ≤ length l

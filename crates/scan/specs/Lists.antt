@@ -28,11 +28,6 @@ module _ {A : Type 0} (p : A → Bool) where
     pub from : at ≤ r
     pub within : r ≤ max at (length xs)
 
-  -- no element before r passes: the first one of the rest is the first one
-  pub record Passed (xs : List A) (r : ℕ) : Type 0 where
-    pub inside : r ≤ length xs
-    pub same : r + first (drop r xs) ≡ first xs
-
 -- from place a up to, not including, place e
 abbrev pub part : {A : Type 0} → ℕ → ℕ → List A → List A
 part a e xs = take (e - a) (drop a xs)

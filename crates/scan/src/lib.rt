@@ -1,8 +1,9 @@
 // Looking at bytes: classes of bytes, the first byte of a class, two texts compared, outer spaces removed. Every function has an
-// answer for all bytes and all places. A call looks at each byte at most once, `trimmed` at most twice, and copies none.
+// answer for all bytes and all places. A call looks at a byte at most twice, `place_among` once for each word that is as long, and copies
+// none.
 ghost use mathlib.Core.Path.{_≡_};
 ghost use lib.Dec.{eqb};
-ghost use Rattle.scan.specs.Lists.{all, FirstOf, FirstFrom, Passed};
+ghost use Rattle.scan.specs.Lists.{all, FirstOf, FirstFrom};
 ghost use Rattle.scan.specs.Classes.{isDigit, isCapital, isName, isText, inClass};
 ghost use Rattle.scan.specs.Compare.{seen, areAlike};
 ghost use Rattle.scan.specs.Trim.{Trimmed};
@@ -66,7 +67,22 @@ pub fn in_class(c: Class, b: u8) -> bool
     }
 }
 
-// The place of the first byte that is x, or the length. Eight bytes are compared in a row before the end is looked for again.
+// The place of the first byte of the class, byte by byte.
+fn first_among(s: &[u8], c: Class) -> usize
+    ensures { λ r. ⌜ FirstOf (inClass c) (now (s .entry)) r ⌝ }
+{
+    let mut at = 0;
+    while at < s.len() {
+        if in_class(c, s[at]) {
+            return at;
+        }
+        at += 1;
+    }
+    at
+}
+
+// The place of the first byte that is x. Eight bytes are compared in a row before the end is looked for again; the last ones are compared
+// here too, since a call of `first_among` costs more than they do.
 fn first_is(s: &[u8], x: u8) -> usize
     ensures { λ r. ⌜ FirstOf (inClass (Class.Is x)) (now (s .entry)) r ⌝ }
 {
@@ -103,40 +119,18 @@ fn are_text(s: &[u8]) -> bool
     text
 }
 
-// A place with text alone before it: whole blocks of sixteen bytes are passed over.
-fn after_text(s: &[u8]) -> usize
-    ensures { λ r. ⌜ Passed (inClass Class.NotText) (now (s .entry)) r ⌝ }
+// The place of the first byte that is not text. Whole blocks of sixteen bytes of text are passed over.
+fn first_not_text(s: &[u8]) -> usize
+    ensures { λ r. ⌜ FirstOf (inClass Class.NotText) (now (s .entry)) r ⌝ }
 {
     let mut at = 0;
     while 16 <= s.len() - at {
         let end = at + 16;
         if !are_text(&s[at..end]) {
-            return at;
+            break;
         }
         at = end;
     }
-    at
-}
-
-// The place of the first byte of the class, byte by byte.
-fn first_among(s: &[u8], c: Class) -> usize
-    ensures { λ r. ⌜ FirstOf (inClass c) (now (s .entry)) r ⌝ }
-{
-    let mut at = 0;
-    while at < s.len() {
-        if in_class(c, s[at]) {
-            return at;
-        }
-        at += 1;
-    }
-    at
-}
-
-// The place of the first byte that is not text, or the length.
-fn first_not_text(s: &[u8]) -> usize
-    ensures { λ r. ⌜ FirstOf (inClass Class.NotText) (now (s .entry)) r ⌝ }
-{
-    let at = after_text(s);
     at + first_among(&s[at..], Class::NotText)
 }
 
@@ -147,10 +141,7 @@ pub fn first_in(s: &[u8], c: Class) -> usize
     match c {
         Class::Is(x) => first_is(s, x),
         Class::NotText => first_not_text(s),
-        Class::Not(_) => first_among(s, c),
-        Class::Digit => first_among(s, c),
-        Class::Name => first_among(s, c),
-        Class::Text => first_among(s, c),
+        _ => first_among(s, c),
     }
 }
 

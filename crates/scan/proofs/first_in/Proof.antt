@@ -3,12 +3,6 @@ use borrow.Author.Needs.{needs}
 use Rattle.scan.proofs.first_in.Statement.{statement}
 use Rattle.scan.proofs.first_in.Tie as tie
 
-returns : tie.Need-returns
-returns c = rw (c .before .before .c .given .1) (c .first-is .ensures)
-
-returns-2 : tie.Need-returns-2
-returns-2 c = rw (c .before .enum-told .given .1) (c .first-not-text .ensures)
-
 pub first-in-spec : {M : Type 1} → statement M
 first-in-spec =
     tie.close
@@ -17,17 +11,7 @@ first-in-spec =
     (λ c κs. search needs)
     (λ c. search needs)
     (λ c κs. search needs)
-    (λ c. search needs)
     (λ c κs. search needs)
-    (λ c. search needs)
-    (λ c κs. search needs)
-    (λ c. search needs)
-    (λ c κs. search needs)
-    (λ c. search needs)
-    (λ c κs. search needs)
-    returns
-    returns-2
-    (λ c. search needs)
-    (λ c. search needs)
-    (λ c. search needs)
+    (λ c. rw (c .before .before .c .given .1) (c .first-is .ensures))
+    (λ c. rw (c .before .enum-told .given .1) (c .first-not-text .ensures))
     (λ c. search needs))
