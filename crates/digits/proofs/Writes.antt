@@ -7,7 +7,9 @@ use native.Mathlib.Nat.{add-zero, add-suc, suc-add}
 use native.Mathlib.Omega.{arith}
 use lib.ListN.{length, take, drop, getD, set, length-append, length-set, take-append-drop, drop-of-length-le}
 use lib.Seq.{sets, length-sets, take-all, take-nil, take-suc-set, drop-set-lt, set-out, set-comm}
+use Rattle.scan.specs.Lists.{part}
 use Rattle.scan.proofs.Bools.{by-cases}
+use Rattle.scan.proofs.Parts.{part-length}
 use Rattle.scan.proofs.Loops.{turn, end}
 use Rattle.digits.specs.Wrote.{written, Wrote}
 
@@ -116,22 +118,19 @@ storing-more {b} {t} {d} {at} {i} s h =
       same = rw n (sym (turn (sets d (at + i)) t i 0 h) ∙ s .same);
     }
 
-pub storing-end : {b t d : List ℕ} {at i n next : ℕ} → Storing b at t d i → n ≡ min (length b - at) (length t) → n ≤ i → next ≡ min (at + length t) (length d + 1)
-    → Wrote b at t d next
-storing-end {b} {t} {d} {at} {i} {n} {next} s e h p =
-    let k : length d ≡ length b = s .kept in
-    let none : d ≡ sets d (at + i) (drop i t) =
-    by-cases (decLt i (length t))
-    (λ l. sym (sets-past d (at + i) (drop i t) (omega arith)))
-    (λ l. sym (end (sets d (at + i)) t i (omega arith)))
-    in
-    record { is = none ∙ s .same; place = omega arith }
+pub storing-end : {b t d : List ℕ} {at i : ℕ} → Storing b at t d i → length t ≤ i → at + length t ≤ length b → Wrote b at t d (at + length t)
+storing-end {b} {t} {d} {at} {i} s h f = record { is = sym (end (sets d (at + i)) t i h) ∙ s .same; place = omega arith }
 
--- a text that fits is stored whole
-pub storing-all : {b t d : List ℕ} {at i : ℕ} → Storing b at t d i → length t ≤ i → at + length t ≤ length b → Wrote b at t d (at + length t)
-storing-all {b} {t} {d} {at} {i} s h f =
-    let k : length d ≡ length b = s .kept in
-    storing-end {n = length t} s (omega arith) h (omega arith)
+-- of a text that does not fit, as much as fits is put
+pub wrote-some : {b d t : List ℕ} {at room next : ℕ} → at ≤ length b → room ≡ length b - at → room < length t → Wrote b at (part 0 room t) d next → Wrote b at t d (length b + 1)
+unfolding written
+wrote-some {b} {d} {t} {at} {room} a e h w =
+    let n : length (part 0 room t) ≡ room - 0 = part-length 0 room t (omega arith) in
+    let p : take (length b - at) (part 0 room t) ≡ part 0 room t = take-all (length b - at) (part 0 room t) (omega arith) in
+    let q : drop (at + length (part 0 room t)) b ≡ [] = drop-of-length-le b {i = at + length (part 0 room t)} (omega arith) in
+    let r : drop (at + length t) b ≡ [] = drop-of-length-le b {i = at + length t} (omega arith) in
+    let m : room - 0 ≡ length b - at = omega arith in
+    record { is = w .is ∙ rw (p, q, r, m); place = omega arith }
 
 -- the same text by another name
 pub wrote-as : {b d t u : List ℕ} {at next : ℕ} → t ≡ u → Wrote b at t d next → Wrote b at u d next

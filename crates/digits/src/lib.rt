@@ -129,42 +129,16 @@ pub fn hex_number(s: &[u8]) -> Read
     }
 }
 
-// How many of `count` bytes fit into `len` bytes from place `at` on.
-fn fitting(len: usize, at: usize, count: usize) -> usize
-    ensures { λ r. ⌜ r ≡ min (len - at) count ⌝ }
-{
-    if len <= at {
-        return 0;
-    }
-    if len - at < count { len - at } else { count }
-}
-
 // The place after `count` bytes from place `at` on, or one past `len` where they do not fit.
 fn place_after(len: usize, at: usize, count: usize) -> usize
-    requires { ⌜ len < 9223372036854775808 ⌝ }
+    requires { ⌜ (at ≤ len) × (len < 9223372036854775808) ⌝ }
     ensures { λ r. ⌜ r ≡ min (at + count) (len + 1) ⌝ }
 {
-    if len < at {
-        return len + 1;
-    }
     if len - at < count {
         len + 1
     } else {
         at + count
     }
-}
-
-// Puts as much of the text into the buffer at a place as the buffer reaches.
-fn put_some(buf: &mut [u8], at: usize, t: &[u8]) -> usize
-    ensures { λ r. ⌜ Wrote (now (buf .entry)) at (now (t .entry)) (now (buf .exit)) r ⌝ }
-{
-    let n = fitting(buf.len(), at, t.len());
-    let mut i = 0;
-    while i < n {
-        buf[at + i] = t[i];
-        i += 1;
-    }
-    place_after(buf.len(), at, t.len())
 }
 
 // Puts a text that fits into the buffer at a place. A text of a known length is then stored without a loop.
@@ -184,13 +158,17 @@ fn put_all(buf: &mut [u8], at: usize, t: &[u8]) -> usize
 pub fn put(buf: &mut [u8], at: usize, t: &[u8]) -> usize
     ensures { λ r. ⌜ Wrote (now (buf .entry)) at (now (t .entry)) (now (buf .exit)) r ⌝ }
 {
-    if buf.len() < at {
-        return put_some(buf, at, t);
+    let len = buf.len();
+    if len < at {
+        return len + 1;
     }
-    if buf.len() - at < t.len() {
-        return put_some(buf, at, t);
+    let room = len - at;
+    if room < t.len() {
+        put_all(buf, at, &t[0..room]);
+        len + 1
+    } else {
+        put_all(buf, at, t)
     }
-    put_all(buf, at, t)
 }
 
 // Stores a byte at a place, or nothing where the buffer ends before it.

@@ -4,7 +4,7 @@ use Prim.Native.Nat.{_-_}
 use native.Mathlib.Omega.{arith}
 use lib.ListN.{length}
 use borrow.Author.Needs.{needs}
-use Rattle.digits.proofs.Writes.{Storing, storing-start, storing-more, storing-all}
+use Rattle.digits.proofs.Writes.{Storing, storing-start, storing-more, storing-end}
 use Rattle.digits.proofs.put_all.Statement.{statement}
 use Rattle.digits.proofs.put_all.Tie as tie
 
@@ -29,4 +29,4 @@ put-all-spec =
     (λ c. storing-more (c .before .before .loop .inv) (omega arith))
     (λ c. search needs)
     (λ c. search needs)
-    (λ c. search (storing-all, needs)))
+    (λ c. search (storing-end, needs)))
