@@ -79,7 +79,7 @@ fn plain(least: u32, most: u32, s: &[u8]) -> Read
     digits::at_least(least, digits::number(s, Zeros::Allowed, 5, most))
 }
 
-// The code of a polarisation.
+// The code of a word of pol: its place among the words of the table, counted from 1. So for each attribute that has words.
 fn pol_word(s: &[u8]) -> Read
     ensures { λ r. ⌜ r ≡ word (text "h v l r") (now (s .entry)) ⌝ }
 {
@@ -98,7 +98,6 @@ fn pol_word(s: &[u8]) -> Read
     Read::Nothing
 }
 
-// The code of a system.
 fn msys_word(s: &[u8]) -> Read
     ensures { λ r. ⌜ r ≡ word (text "dvbs dvbs2") (now (s .entry)) ⌝ }
 {
@@ -111,7 +110,6 @@ fn msys_word(s: &[u8]) -> Read
     Read::Nothing
 }
 
-// The code of a modulation.
 fn mtype_word(s: &[u8]) -> Read
     ensures { λ r. ⌜ r ≡ word (text "qpsk 8psk") (now (s .entry)) ⌝ }
 {
@@ -124,7 +122,6 @@ fn mtype_word(s: &[u8]) -> Read
     Read::Nothing
 }
 
-// The code of a word for pilots.
 fn plts_word(s: &[u8]) -> Read
     ensures { λ r. ⌜ r ≡ word (text "on off") (now (s .entry)) ⌝ }
 {
@@ -137,7 +134,6 @@ fn plts_word(s: &[u8]) -> Read
     Read::Nothing
 }
 
-// The code of a roll-off.
 fn ro_word(s: &[u8]) -> Read
     ensures { λ r. ⌜ r ≡ word (text "0.35 0.25 0.20") (now (s .entry)) ⌝ }
 {
@@ -153,7 +149,6 @@ fn ro_word(s: &[u8]) -> Read
     Read::Nothing
 }
 
-// The code of a code rate.
 fn fec_word(s: &[u8]) -> Read
     ensures { λ r. ⌜ r ≡ word (text "12 23 34 56 78 89 35 45 910") (now (s .entry)) ⌝ }
 {
@@ -187,7 +182,6 @@ fn fec_word(s: &[u8]) -> Read
     Read::Nothing
 }
 
-// The code of a word for PIDs.
 fn pids_word(s: &[u8]) -> Read
     ensures { λ r. ⌜ r ≡ word (text "all none") (now (s .entry)) ⌝ }
 {

@@ -2,9 +2,8 @@
 -- Assumes nothing.
 use borrow.Author.Needs.{needs}
 use Rattle.scan.specs.Text.{text}
-use Rattle.scan.specs.declared.Case.the-variants.{Counts}
-use Rattle.scan.proofs.Places.{miss, none, place-alike, place-none}
-use Rattle.tuning.proofs.Words.{word-at}
+use Rattle.scan.proofs.Places.{miss, none}
+use Rattle.tuning.proofs.Words.{word-alike, word-none}
 use Rattle.tuning.proofs.fec_word.Statement.{statement}
 use Rattle.tuning.proofs.fec_word.Tie as tie
 
@@ -18,7 +17,7 @@ returns-10 c =
     let c3 = c4 .before .before .before in
     let c2 = c3 .before .before .before in
     let c1 = c2 .before .before .before in
-    word-at (text "12 23 34 56 78 89 35 45 910") _ 9 (place-none Counts (text "12 23 34 56 78 89 35 45 910")
+    word-none (text "12 23 34 56 78 89 35 45 910") _
     (miss (c1 .before .are-alike .ensures) (c1 .if1 .left)
     (miss (c2 .before .are-alike2 .ensures) (c2 .if2 .left)
     (miss (c3 .before .are-alike3 .ensures) (c3 .if3 .left)
@@ -28,7 +27,7 @@ returns-10 c =
     (miss (c7 .before .are-alike7 .ensures) (c7 .if7 .left)
     (miss (c8 .before .are-alike8 .ensures) (c8 .if8 .left)
     (miss (c .before .are-alike9 .ensures) (c .if9 .left)
-    none))))))))))
+    none)))))))))
 
 pub fec-word-spec : {M : Type 1} → statement M
 fec-word-spec =
@@ -36,29 +35,29 @@ fec-word-spec =
     (tie.spec
     (λ c. search needs)
     (λ c κs. search needs)
-    (λ c. word-at (text "12 23 34 56 78 89 35 45 910") _ 0 (place-alike Counts (text "12 23 34 56 78 89 35 45 910") (text "12") _ (c .before .are-alike .ensures) (c .if1 .taken)))
+    (λ c. search (word-alike (text "12 23 34 56 78 89 35 45 910") (text "12"), needs))
     (λ c. search needs)
     (λ c κs. search needs)
-    (λ c. word-at (text "12 23 34 56 78 89 35 45 910") _ 1 (place-alike Counts (text "12 23 34 56 78 89 35 45 910") (text "23") _ (c .before .are-alike2 .ensures) (c .if2 .taken)))
+    (λ c. search (word-alike (text "12 23 34 56 78 89 35 45 910") (text "23"), needs))
     (λ c. search needs)
     (λ c κs. search needs)
-    (λ c. word-at (text "12 23 34 56 78 89 35 45 910") _ 2 (place-alike Counts (text "12 23 34 56 78 89 35 45 910") (text "34") _ (c .before .are-alike3 .ensures) (c .if3 .taken)))
+    (λ c. search (word-alike (text "12 23 34 56 78 89 35 45 910") (text "34"), needs))
     (λ c. search needs)
     (λ c κs. search needs)
-    (λ c. word-at (text "12 23 34 56 78 89 35 45 910") _ 3 (place-alike Counts (text "12 23 34 56 78 89 35 45 910") (text "56") _ (c .before .are-alike4 .ensures) (c .if4 .taken)))
+    (λ c. search (word-alike (text "12 23 34 56 78 89 35 45 910") (text "56"), needs))
     (λ c. search needs)
     (λ c κs. search needs)
-    (λ c. word-at (text "12 23 34 56 78 89 35 45 910") _ 4 (place-alike Counts (text "12 23 34 56 78 89 35 45 910") (text "78") _ (c .before .are-alike5 .ensures) (c .if5 .taken)))
+    (λ c. search (word-alike (text "12 23 34 56 78 89 35 45 910") (text "78"), needs))
     (λ c. search needs)
     (λ c κs. search needs)
-    (λ c. word-at (text "12 23 34 56 78 89 35 45 910") _ 5 (place-alike Counts (text "12 23 34 56 78 89 35 45 910") (text "89") _ (c .before .are-alike6 .ensures) (c .if6 .taken)))
+    (λ c. search (word-alike (text "12 23 34 56 78 89 35 45 910") (text "89"), needs))
     (λ c. search needs)
     (λ c κs. search needs)
-    (λ c. word-at (text "12 23 34 56 78 89 35 45 910") _ 6 (place-alike Counts (text "12 23 34 56 78 89 35 45 910") (text "35") _ (c .before .are-alike7 .ensures) (c .if7 .taken)))
+    (λ c. search (word-alike (text "12 23 34 56 78 89 35 45 910") (text "35"), needs))
     (λ c. search needs)
     (λ c κs. search needs)
-    (λ c. word-at (text "12 23 34 56 78 89 35 45 910") _ 7 (place-alike Counts (text "12 23 34 56 78 89 35 45 910") (text "45") _ (c .before .are-alike8 .ensures) (c .if8 .taken)))
+    (λ c. search (word-alike (text "12 23 34 56 78 89 35 45 910") (text "45"), needs))
     (λ c. search needs)
     (λ c κs. search needs)
-    (λ c. word-at (text "12 23 34 56 78 89 35 45 910") _ 8 (place-alike Counts (text "12 23 34 56 78 89 35 45 910") (text "910") _ (c .before .are-alike9 .ensures) (c .if9 .taken)))
+    (λ c. search (word-alike (text "12 23 34 56 78 89 35 45 910") (text "910"), needs))
     returns-10)

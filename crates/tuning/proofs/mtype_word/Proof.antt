@@ -2,19 +2,10 @@
 -- Assumes nothing.
 use borrow.Author.Needs.{needs}
 use Rattle.scan.specs.Text.{text}
-use Rattle.scan.specs.declared.Case.the-variants.{Counts}
-use Rattle.scan.proofs.Places.{miss, none, place-alike, place-none}
-use Rattle.tuning.proofs.Words.{word-at}
+use Rattle.scan.proofs.Places.{miss, none}
+use Rattle.tuning.proofs.Words.{word-alike, word-none}
 use Rattle.tuning.proofs.mtype_word.Statement.{statement}
 use Rattle.tuning.proofs.mtype_word.Tie as tie
-
-returns-3 : tie.Need-returns-3
-returns-3 c =
-    let c1 = c .before .before .before in
-    word-at (text "qpsk 8psk") _ 2 (place-none Counts (text "qpsk 8psk")
-    (miss (c1 .before .are-alike .ensures) (c1 .if1 .left)
-    (miss (c .before .are-alike2 .ensures) (c .if2 .left)
-    none)))
 
 pub mtype-word-spec : {M : Type 1} → statement M
 mtype-word-spec =
@@ -22,8 +13,8 @@ mtype-word-spec =
     (tie.spec
     (λ c. search needs)
     (λ c κs. search needs)
-    (λ c. word-at (text "qpsk 8psk") _ 0 (place-alike Counts (text "qpsk 8psk") (text "qpsk") _ (c .before .are-alike .ensures) (c .if1 .taken)))
+    (λ c. search (word-alike (text "qpsk 8psk") (text "qpsk"), needs))
     (λ c. search needs)
     (λ c κs. search needs)
-    (λ c. word-at (text "qpsk 8psk") _ 1 (place-alike Counts (text "qpsk 8psk") (text "8psk") _ (c .before .are-alike2 .ensures) (c .if2 .taken)))
-    returns-3)
+    (λ c. search (word-alike (text "qpsk 8psk") (text "8psk"), needs))
+    (λ c. search (word-none (text "qpsk 8psk"), miss, none, needs)))
