@@ -10,7 +10,6 @@ use borrow.Author.Tests.{lt-ltb, le-ltb, ne-eqb}
 use Rattle.scan.specs.Text.{text}
 use Rattle.scan.specs.Lists.{part, Holds}
 use Rattle.scan.specs.Compare.{areAlike}
-use Rattle.scan.specs.Words.{placeAmong}
 use Rattle.scan.specs.declared.Span.{Span}
 use Rattle.scan.specs.declared.Case.the-variants.{Counts}
 use Rattle.scan.proofs.Bools.{never}
@@ -31,28 +30,17 @@ use Rattle.reader.specs.Fields.{cseqFrom, sessionOf, sessionIn, transpor
 use Rattle.reader.specs.Heads.{textAt, cseqAt, sessionAt, areTwice, Begun, Headed, Passing}
 use Rattle.aim.specs.Query.{nowhere}
 use Rattle.aim.specs.Refusals.{_refuses_or_, stepOf, isPassed}
-use Rattle.reader.specs.Request.{methodAt, methodIn, isOther, cseqOf, isTwice, methodOf, uriOf, isVersion, headRefusal, requestRefusal, refusedRequest, RequestIs}
+use Rattle.reader.specs.Request.{methodIn, isOther, cseqOf, isTwice, methodOf, uriOf, isVersion, headRefusal, requestRefusal, refusedRequest, RequestIs}
 use Rattle.aim.specs.Aim.{AimIs}
 use Rattle.aim.specs.declared.refusals.Refusal.{Refusal}
 use Rattle.aim.specs.declared.refusals.Refusal.the-variants.{Passed, Layout, CSeq, RequestLine, HeaderTwice, Version, Require, UriLong, UriForm, QueryUntaken, QueryForm, PidsClash, PidsUnstreamed, NoStream}
 use Rattle.aim.specs.declared.refusals.Refusal.the-variants.{Method as OtherMethod, Value as Outside}
 use Rattle.aim.specs.declared.Method.{Method}
-use Rattle.aim.specs.declared.Method.the-variants.{Other}
 use Rattle.aim.specs.declared.Aim.{Aim}
 use Rattle.reader.specs.declared.Request.{Request}
 use Rattle.reader.specs.declared.fields.Session.{Session}
 use Rattle.reader.specs.declared.fields.Session.the-variants.{Absent}
 use Rattle.reader.specs.declared.fields.Transport.{Transport}
-
--- the method at a place among the words
-module _ (m : List ℕ) {k : ℕ} (e : k ≡ placeAmong Counts (text "OPTIONS SETUP PLAY TEARDOWN") m) where
-  pub method-found : {n : ℕ} → k ≡ n → methodAt n ≡ methodIn m
-  unfolding methodIn
-  method-found q = rw (← e, q)
-
-  pub method-none : (k ≡ 0 → ⊥) → (k ≡ 1 → ⊥) → (k ≡ 2 → ⊥) → (k ≡ 3 → ⊥) → Other ≡ methodIn m
-  unfolding methodIn
-  method-none a b c d = rw (← e, ne-eqb k 0 a, ne-eqb k 1 b, ne-eqb k 2 c, ne-eqb k 3 d)
 
 -- A HEADER BY ITS PLACE
 -- of a count, two stands for more
