@@ -18,7 +18,22 @@ abbrev pub _says_or_ : Bool → String → List ℕ → List ℕ
 _says_or_ true t rest = text t
 _says_or_ false t rest = rest
 
--- "code, space, reason of 3.5.14"
+-- "code, space, reason of 3.5.14": of a status from 501 on, from 454 on, and of any
+abbrev pub reasonFrom501 : ℕ → List ℕ
+reasonFrom501 status =
+    eqb status 501 says "Not Implemented" or
+    eqb status 503 says "Service Unavailable" or
+    eqb status 505 says "RTSP Version Not Supported" or
+    eqb status 551 says "Option Not Supported" or
+    []
+
+abbrev pub reasonFrom454 : ℕ → List ℕ
+reasonFrom454 status =
+    eqb status 454 says "Session Not Found" or
+    eqb status 455 says "Method Not Valid in This State" or
+    eqb status 461 says "Unsupported Transport" or
+    reasonFrom501 status
+
 unfoldable pub reasonOf : ℕ → List ℕ
 reasonOf status =
     eqb status 200 says "OK" or
@@ -27,14 +42,7 @@ reasonOf status =
     eqb status 404 says "Not Found" or
     eqb status 405 says "Method Not Allowed" or
     eqb status 414 says "Request-URI Too Long" or
-    eqb status 454 says "Session Not Found" or
-    eqb status 455 says "Method Not Valid in This State" or
-    eqb status 461 says "Unsupported Transport" or
-    eqb status 501 says "Not Implemented" or
-    eqb status 503 says "Service Unavailable" or
-    eqb status 505 says "RTSP Version Not Supported" or
-    eqb status 551 says "Option Not Supported" or
-    []
+    reasonFrom454 status
 
 abbrev pub statusLine : ℕ → List ℕ
 statusLine status = text "RTSP/1.0 " & decimal status & text " " & reasonOf status & text "\r\n"

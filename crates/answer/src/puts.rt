@@ -1,8 +1,31 @@
 // The lines of an answer, one function each; each ends in CR LF.
 ghost use Rattle.digits.specs.Wrote.{Wrote};
-ghost use Rattle.answer.specs.Lines.{textAt, reasonOf, statusLine, cseqLine, sessionLine, publicLine, allowLine, unsupportedLine, transportStart, portsText, transportLine, streamLine, rtpInfoLine};
+ghost use Rattle.answer.specs.Lines.{textAt, reasonFrom501, reasonFrom454, reasonOf, statusLine, cseqLine, sessionLine, publicLine, allowLine, unsupportedLine, transportStart, portsText, transportLine, streamLine, rtpInfoLine};
 use digits::Read;
 use scan::Span;
+
+fn put_reason_from_501(buf: &mut [u8], at: usize, status: u32) -> usize
+    ensures { λ r. ⌜ Wrote (now (buf .entry)) at (reasonFrom501 status) (now (buf .exit)) r ⌝ }
+{
+    match status {
+        501 => digits::put(buf, at, b"Not Implemented"),
+        503 => digits::put(buf, at, b"Service Unavailable"),
+        505 => digits::put(buf, at, b"RTSP Version Not Supported"),
+        551 => digits::put(buf, at, b"Option Not Supported"),
+        _ => digits::put(buf, at, b""),
+    }
+}
+
+fn put_reason_from_454(buf: &mut [u8], at: usize, status: u32) -> usize
+    ensures { λ r. ⌜ Wrote (now (buf .entry)) at (reasonFrom454 status) (now (buf .exit)) r ⌝ }
+{
+    match status {
+        454 => digits::put(buf, at, b"Session Not Found"),
+        455 => digits::put(buf, at, b"Method Not Valid in This State"),
+        461 => digits::put(buf, at, b"Unsupported Transport"),
+        _ => put_reason_from_501(buf, at, status),
+    }
+}
 
 // The reason phrase of a status; none where document 001 names none that the box gives.
 fn put_reason(buf: &mut [u8], at: usize, status: u32) -> usize
@@ -15,14 +38,7 @@ fn put_reason(buf: &mut [u8], at: usize, status: u32) -> usize
         404 => digits::put(buf, at, b"Not Found"),
         405 => digits::put(buf, at, b"Method Not Allowed"),
         414 => digits::put(buf, at, b"Request-URI Too Long"),
-        454 => digits::put(buf, at, b"Session Not Found"),
-        455 => digits::put(buf, at, b"Method Not Valid in This State"),
-        461 => digits::put(buf, at, b"Unsupported Transport"),
-        501 => digits::put(buf, at, b"Not Implemented"),
-        503 => digits::put(buf, at, b"Service Unavailable"),
-        505 => digits::put(buf, at, b"RTSP Version Not Supported"),
-        551 => digits::put(buf, at, b"Option Not Supported"),
-        _ => digits::put(buf, at, b""),
+        _ => put_reason_from_454(buf, at, status),
     }
 }
 

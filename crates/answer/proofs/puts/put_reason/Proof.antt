@@ -29,47 +29,12 @@ returns-6 : tie.Need-returns-6
 unfolding reasonOf
 returns-6 c = let c1 = c .before .before in rw (c1 .before .before .before .match .keys6) (c1 .put6 .ensures)
 
+-- a status from 454 on, or none
 returns-7 : tie.Need-returns-7
 unfolding reasonOf
-returns-7 c = let c1 = c .before .before in rw (c1 .before .before .before .match .keys7) (c1 .put7 .ensures)
-
-returns-8 : tie.Need-returns-8
-unfolding reasonOf
-returns-8 c = let c1 = c .before .before in rw (c1 .before .before .before .match .keys8) (c1 .put8 .ensures)
-
-returns-9 : tie.Need-returns-9
-unfolding reasonOf
-returns-9 c = let c1 = c .before .before in rw (c1 .before .before .before .match .keys9) (c1 .put9 .ensures)
-
-returns-10 : tie.Need-returns-10
-unfolding reasonOf
-returns-10 c = let c1 = c .before .before in rw (c1 .before .before .before .match .keys10) (c1 .put10 .ensures)
-
-returns-11 : tie.Need-returns-11
-unfolding reasonOf
-returns-11 c = let c1 = c .before .before in rw (c1 .before .before .before .match .keys11) (c1 .put11 .ensures)
-
-returns-12 : tie.Need-returns-12
-unfolding reasonOf
-returns-12 c = let c1 = c .before .before in rw (c1 .before .before .before .match .keys12) (c1 .put12 .ensures)
-
-returns-13 : tie.Need-returns-13
-unfolding reasonOf
-returns-13 c = let c1 = c .before .before in rw (c1 .before .before .before .match .keys13) (c1 .put13 .ensures)
-
--- a status that has no reason phrase
-returns-14 : tie.Need-returns-14
-unfolding reasonOf
-returns-14 c =
-    let n = c .before .before .before .before .before .match .rest in
+returns-7 c =
+    let n = c .before .before .before .before .match .rest in
     rw (
-      ne-eqb _ _ (n .0 .0 .0 .0 .0 .0 .0 .0 .0 .0 .0 .0 .1),
-      ne-eqb _ _ (n .0 .0 .0 .0 .0 .0 .0 .0 .0 .0 .0 .1),
-      ne-eqb _ _ (n .0 .0 .0 .0 .0 .0 .0 .0 .0 .0 .1),
-      ne-eqb _ _ (n .0 .0 .0 .0 .0 .0 .0 .0 .0 .1),
-      ne-eqb _ _ (n .0 .0 .0 .0 .0 .0 .0 .0 .1),
-      ne-eqb _ _ (n .0 .0 .0 .0 .0 .0 .0 .1),
-      ne-eqb _ _ (n .0 .0 .0 .0 .0 .0 .1),
       ne-eqb _ _ (n .0 .0 .0 .0 .0 .1),
       ne-eqb _ _ (n .0 .0 .0 .0 .1),
       ne-eqb _ _ (n .0 .0 .0 .1),
@@ -77,7 +42,36 @@ returns-14 c =
       ne-eqb _ _ (n .0 .1),
       ne-eqb _ _ (n .1),
     )
-    (c .before .before .put14 .ensures)
+    (c .before .before .put-reason-from-454 .ensures)
 
 pub put-reason-spec : {M : Type 1} → statement M
-put-reason-spec = tie.close (tie.spec (λ c. search needs) (λ c κs. search needs) (λ c. search needs) (λ c κs. search needs) (λ c. search needs) (λ c κs. search needs) (λ c. search needs) (λ c κs. search needs) (λ c. search needs) (λ c κs. search needs) (λ c. search needs) (λ c κs. search needs) (λ c. search needs) (λ c κs. search needs) (λ c. search needs) (λ c κs. search needs) (λ c. search needs) (λ c κs. search needs) (λ c. search needs) (λ c κs. search needs) (λ c. search needs) (λ c κs. search needs) (λ c. search needs) (λ c κs. search needs) (λ c. search needs) (λ c κs. search needs) (λ c. search needs) (λ c κs. search needs) (λ c. search needs) returns (λ c. search needs) returns-2 (λ c. search needs) returns-3 (λ c. search needs) returns-4 (λ c. search needs) returns-5 (λ c. search needs) returns-6 (λ c. search needs) returns-7 (λ c. search needs) returns-8 (λ c. search needs) returns-9 (λ c. search needs) returns-10 (λ c. search needs) returns-11 (λ c. search needs) returns-12 (λ c. search needs) returns-13 (λ c. search needs) returns-14)
+put-reason-spec =
+    tie.close
+    (tie.spec
+    (λ c. search needs)
+    (λ c κs. search needs)
+    (λ c. search needs)
+    (λ c κs. search needs)
+    (λ c. search needs)
+    (λ c κs. search needs)
+    (λ c. search needs)
+    (λ c κs. search needs)
+    (λ c. search needs)
+    (λ c κs. search needs)
+    (λ c. search needs)
+    (λ c κs. search needs)
+    (λ c κs. search needs)
+    (λ c. search needs)
+    returns
+    (λ c. search needs)
+    returns-2
+    (λ c. search needs)
+    returns-3
+    (λ c. search needs)
+    returns-4
+    (λ c. search needs)
+    returns-5
+    (λ c. search needs)
+    returns-6
+    (λ c. search needs)
+    returns-7)
