@@ -15,8 +15,7 @@
  *   - each other pointer is valid for the length beside it; with length 0 it may be NULL.
  *   - box, request, answer, journal and buffer do not overlap.
  *   - until the call returns, no other thread and no interrupt reads or writes any of them. Calls on two boxes may run at once.
- *   - the stack has room below the caller's frame: satbox_request takes up to 14,344 bytes, satbox_order 7,976, satbox_tick 6,472,
- *     satbox_collect 4,936, satbox_make 1,560, each of the others under 200. docs/FIRMWARE.md says how that was measured.
+ *   - the stack has room: SATBOX_STACK_.. bytes for each call, and below them the 128 of the red zone.
  *   - the journal's bytes stay with their box: between two calls nobody writes them, nor the box's fields. Both may be read.
  */
 #ifndef SATBOX_H
@@ -41,14 +40,14 @@
 #define SATBOX_TIMEOUT 60u              /* seconds: a session of this age is expired, one of 59 is not */
 #define SATBOX_CLOCK_MAX 4294967295u    /* here time stands still: no session opened now ever expires */
 
-/* Bytes of stack that each call takes below its caller's, with its arguments there and its return address. */
-#define SATBOX_STACK_REQUEST 7432u
+/* Bytes of stack that each call takes, with its arguments on it and its return address. docs/FIRMWARE.md says how that was measured. */
+#define SATBOX_STACK_REQUEST 6296u
 #define SATBOX_STACK_TICK 3480u
 #define SATBOX_STACK_ORDER 3528u
 #define SATBOX_STACK_COLLECT 3464u
 #define SATBOX_STACK_MAKE 1560u
-#define SATBOX_STACK_WRITE_RECORD 100u
-#define SATBOX_STACK_READ_RECORD 65u
+#define SATBOX_STACK_WRITE_RECORD 80u
+#define SATBOX_STACK_READ_RECORD 56u
 
 /* Refusals. */
 #define SATBOX_DONE 0u

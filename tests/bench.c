@@ -117,6 +117,7 @@ static unsigned long count_archive(const struct bench *b)
     struct satbox *box = (struct satbox *)(void *)&archive.box;
     struct satbox_reply reply = {0, 0};
     memcpy(&archive, &start, sizeof archive);
+    steps_set_prices(true);
     steps_start();
     if (b->write == NULL)
         reply.refusal = satbox_tick(box, b->clock, archive.journal, sizeof archive.journal);
@@ -134,6 +135,7 @@ static unsigned long count_plain(const struct bench *b)
     size_t count = 0;
     int refusal;
     memcpy(&plain, &start, sizeof plain);
+    steps_set_prices(false);
     steps_start();
     if (b->write == NULL)
         refusal = plain_tick(&plain.box, b->clock, plain.journal, sizeof plain.journal);
@@ -181,21 +183,21 @@ static bool count_case(const struct bench *b)
     {"OPTIONS", write_options, sessions, length, CLOCK, o}, {"SETUP", write_setup, sessions, length, CLOCK, s}, \
     {"PLAY", write_play, sessions, length, CLOCK, p}, {"bad", write_bad, sessions, length, CLOCK, b}
 
-/* A bound is some 150 above what was counted: one copy more of the box, 178 instructions, is too many. */
+/* A bound is some 90 above what was counted: one copy more of the box, which has the price of 103, is too many. */
 static const struct bench benches[] = {
     REQUESTS(0, 150, 0, 0, 0, 0),
     REQUESTS(0, 600, 0, 0, 0, 0),
     REQUESTS(0, 2048, 0, 0, 0, 0),
-    REQUESTS(8, 150, 8760, 13410, 11930, 10070),
-    REQUESTS(8, 600, 12720, 0, 0, 0),
+    REQUESTS(8, 150, 6350, 9400, 8070, 6970),
+    REQUESTS(8, 600, 8310, 0, 0, 0),
     REQUESTS(8, 2048, 0, 0, 0, 0),
     REQUESTS(32, 150, 0, 0, 0, 0),
     REQUESTS(32, 600, 0, 0, 0, 0),
     REQUESTS(32, 2048, 0, 0, 0, 0),
-    {"tick", NULL, 0, 0, CLOCK, 2370},
-    {"tick", NULL, 8, 0, CLOCK, 4140},
-    {"tick", NULL, 32, 0, CLOCK, 6120},
-    {"tick, all", NULL, 32, 0, CLOCK + PLAIN_TIMEOUT, 10440}
+    {"tick", NULL, 0, 0, CLOCK, 1920},
+    {"tick", NULL, 8, 0, CLOCK, 3690},
+    {"tick", NULL, 32, 0, CLOCK, 5670},
+    {"tick, all", NULL, 32, 0, CLOCK + PLAIN_TIMEOUT, 9980}
 };
 
 int main(int count, char **words)

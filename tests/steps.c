@@ -8,11 +8,16 @@
 #include <stdint.h>
 #include <string.h>
 
-/* Where Linux keeps the stack pointer and the instruction pointer in what a handler is shown on x86-64. */
-enum { STACK_AT = 160, POINTER_AT = 168 };
+/* Where Linux keeps the third argument, the stack pointer and the instruction pointer in what a handler is shown on x86-64. */
+enum { THIRD_AT = 136, STACK_AT = 160, POINTER_AT = 168 };
+
+/* Where the program itself stands. */
+extern const char __executable_start[], etext[];
 
 static volatile unsigned long steps;
 static volatile uintptr_t last;
+static volatile bool inside;
+static bool prices;
 /* Those of starting and stopping themselves. */
 static unsigned long own;
 /* The function whose stack is looked at, and its stack pointer when it was entered and at its lowest; 0 before it is entered. */
@@ -21,7 +26,7 @@ static volatile uintptr_t entered, lowest;
 
 static void stepped(int number, siginfo_t *info, void *shown)
 {
-    uintptr_t pointer, stack;
+    uintptr_t pointer, stack, third;
     (void)number;
     (void)info;
     memcpy(&pointer, (const char *)shown + POINTER_AT, sizeof pointer);
@@ -30,8 +35,15 @@ static void stepped(int number, siginfo_t *info, void *shown)
         entered = lowest = stack;
     if (stack < lowest)
         lowest = stack;
-    if (pointer != last)
-        steps++;
+    if (!prices || (pointer >= (uintptr_t)__executable_start && pointer < (uintptr_t)etext)) {
+        if (pointer != last)
+            steps++;
+        inside = true;
+    } else if (inside) {
+        memcpy(&third, (const char *)shown + THIRD_AT, sizeof third);
+        steps += STEPS_PRICE + third / STEPS_BYTES;
+        inside = false;
+    }
     last = pointer;
 }
 
@@ -59,6 +71,7 @@ void steps_start(void)
 {
     steps = 0;
     last = 0;
+    inside = true;
     entered = lowest = 0;
     steps_trap();
 }
@@ -67,6 +80,11 @@ unsigned long steps_stop(void)
 {
     steps_untrap();
     return steps - own;
+}
+
+void steps_set_prices(bool on)
+{
+    prices = on;
 }
 
 void steps_watch(void (*entry)(void))

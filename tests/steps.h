@@ -15,6 +15,11 @@ bool steps_prepare(void);
 void steps_start(void);
 unsigned long steps_stop(void);
 
+/* With prices, a call that leaves the program itself, to the C library's memcpy or memset, counts so many and one for so many of its bytes (103
+ * for the box's 1,488), whatever it executes: that differs from processor to processor. Without, as at first, it counts what it executes. */
+enum { STEPS_PRICE = 10, STEPS_BYTES = 16 };
+void steps_set_prices(bool on);
+
 /* Whose stack is looked at from the next start on; and, after the stop, how far the stack pointer went below where it stood before that
  * function was called, its return address included and arguments on the stack not. 0 where it was not called. */
 void steps_watch(void (*entry)(void));
