@@ -128,7 +128,7 @@ fn streams(t: SatBox) {
 pub(crate) fn table(t: SatBox) {
     out::number(b"  frontends ", t.frontends as u32);
     out::number(b" size ", t.size);
-    if table::is_well_formed(t) {
+    if formed::is_well_formed(t) {
         out::text(b", well formed");
     } else {
         out::text(b", not well formed");

@@ -86,7 +86,7 @@ fn order_for(t: SatBox, n: u32) -> Order
 fn judged(t: SatBox, n: u32) -> u32
     ensures { λ r. ⌜ r ≡ verdictOf t n ⌝ }
 {
-    if !table::is_well_formed(t) {
+    if !formed::is_well_formed(t) {
         return 1;
     }
     if (n == 0) | ((t.frontends as u32) < n) {

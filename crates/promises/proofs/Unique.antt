@@ -23,6 +23,7 @@ use Rattle.aim.proofs as aim
 use Rattle.reader.proofs as reader
 use Rattle.stream.proofs as stream
 use Rattle.table.proofs as table
+use Rattle.formed.proofs as formed
 use Rattle.table.proofs.Places.{known}
 use Rattle.answer.proofs as answer
 use Rattle.steps.proofs as steps
@@ -184,8 +185,18 @@ stream-merge κs a x y v w = same
 pub table-fresh : Unique table.SatBox.fresh.ended table.SatBox.fresh.Reads.Post
 table-fresh κs a x y v w = same
 
-pub table-is-well-formed : Unique table.is_well_formed.ended table.is_well_formed.Reads.Post
-table-is-well-formed κs a x y v w = same
+pub table-are-sizes : Unique table.are_sizes.ended table.are_sizes.Reads.Post
+table-are-sizes κs a x y v w = same
+
+pub table-is-among : Unique table.is_among.ended table.is_among.Reads.Post
+table-is-among κs a x y v w = same
+
+pub table-are-distinct : Unique table.are_distinct.ended table.are_distinct.Reads.Post
+table-are-distinct κs a x y v w = same
+
+-- FORMED
+pub formed-is-well-formed : Unique formed.is_well_formed.ended formed.is_well_formed.Reads.Post
+formed-is-well-formed κs a x y v w = same
 
 pub table-number : Unique table.number.ended table.number.Reads.Post
 table-number κs a x y v w = same

@@ -8,4 +8,3 @@ pub mod Rules
 pub mod Changes
 pub mod FreeIds
 pub mod Ids
-pub mod FormedLaws

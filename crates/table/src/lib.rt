@@ -1,7 +1,6 @@
-// The box's table: its sessions and streams, what is free in it, and whether it is well formed. A caller may hand in any bytes as a table;
-// `is_well_formed` says whether a box could stand so.
+// The box's table: its sessions and streams, a fresh one, and what is free in it. Any bytes are a table; whether a box could stand so is said by
+// the crate `formed`.
 mod finding;
-mod formed;
 mod numbers;
 
 pub use finding::count_open;
@@ -13,10 +12,11 @@ pub use finding::lowest_id;
 pub use finding::lowest_place;
 pub use finding::owns;
 pub use finding::place_of;
-pub use formed::is_well_formed;
+pub use numbers::are_distinct;
+pub use numbers::is_among;
 ghost use mathlib.Core.Path.{_≡_};
+ghost use Rattle.table.specs.Formed.{areSizes};
 ghost use Rattle.table.specs.Made.{numberOf, madeOf};
-use formed::are_sizes;
 use stream::Stream;
 
 // One session's place: free exactly if its number is 0. The fields fill it without a gap, so that every byte belongs to one.
@@ -119,6 +119,15 @@ impl SatBox {
             }
         }
     }
+}
+
+// Whether F and C are in range.
+pub fn are_sizes(frontends: u16, size: u32) -> bool
+    ensures { λ r. ⌜ r ≡ areSizes frontends size ⌝ }
+{
+    ((1 <= frontends) & (frontends <= SatBox::MOST_FRONTENDS))
+        & (((SatBox::LEAST_SIZE <= size) & (size <= SatBox::MOST_SIZE))
+            & (size % SatBox::RECORD == 0))
 }
 
 fn empty(frontends: u16, size: u32) -> SatBox

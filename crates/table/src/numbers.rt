@@ -19,7 +19,7 @@ pub(crate) fn frontends_of(t: SatBox) -> [u32; 8]
 }
 
 // Whether a number is one of some. All are looked at, so that the compiler may compare many at once.
-pub(crate) fn is_among(ns: &[u32], n: u32) -> bool
+pub fn is_among(ns: &[u32], n: u32) -> bool
     ensures { λ r. ⌜ r ≡ isAmong n (now (ns .entry)) ⌝ }
 {
     let mut found = false;
@@ -32,7 +32,7 @@ pub(crate) fn is_among(ns: &[u32], n: u32) -> bool
 }
 
 // Whether no number but 0 stands there twice.
-pub(crate) fn are_distinct(ns: &[u32]) -> bool
+pub fn are_distinct(ns: &[u32]) -> bool
     ensures { λ r. ⌜ r ≡ areDistinct (now (ns .entry)) ⌝ }
 {
     let mut i = 0;

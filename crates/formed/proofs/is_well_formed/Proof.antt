@@ -1,12 +1,12 @@
--- `table::formed::is_well_formed` meets its contract. Invariants: what holds of the sessions before i, and of the streams before k.
+-- `formed::is_well_formed` meets its contract. Invariants: what holds of the sessions before i, and of the streams before k.
 -- Assumes nothing.
 use Prim.Native.Nat.{_-_}
 use lib.ListN.{getD}
 use Rattle.table.specs.Table.{noSession}
 use Rattle.table.proofs.Places.{known}
-use Rattle.table.proofs.FormedLaws.{Walking, Placing, improper, walking-start, walking-free, walking-stray, id-low, id-high, id-place, walking-most, walking-not, walking-more, placing-start, placing-not, placing-more, placing-end}
-use Rattle.table.proofs.formed.is_well_formed.Statement.{statement}
-use Rattle.table.proofs.formed.is_well_formed.Tie as tie
+use Rattle.formed.proofs.FormedLaws.{Walking, Placing, improper, walking-start, walking-free, walking-stray, id-low, id-high, id-place, walking-most, walking-not, walking-more, placing-start, placing-not, placing-more, placing-end}
+use Rattle.formed.proofs.is_well_formed.Statement.{statement}
+use Rattle.formed.proofs.is_well_formed.Tie as tie
 
 abbrev Inv-loop : tie.InvT-loop
 Inv-loop t numbers₀ owners₀ opens₀ i₀ numbers owners opens i = Walking t i numbers owners opens

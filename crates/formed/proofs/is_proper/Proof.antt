@@ -1,8 +1,8 @@
--- `table::formed::is_proper` meets its contract. Assumes nothing.
+-- `formed::is_proper` meets its contract. Assumes nothing.
 use borrow.Author.Needs.{needs}
 use borrow.Author.Tests.{eq-eqb, ne-eqb}
-use Rattle.table.proofs.formed.is_proper.Statement.{statement}
-use Rattle.table.proofs.formed.is_proper.Tie as tie
+use Rattle.formed.proofs.is_proper.Statement.{statement}
+use Rattle.formed.proofs.is_proper.Tie as tie
 
 pub is-proper-spec : {M : Type 1} → statement M
 is-proper-spec =

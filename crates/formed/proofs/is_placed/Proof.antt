@@ -1,8 +1,8 @@
--- `table::formed::is_placed` meets its contract. Assumes nothing.
+-- `formed::is_placed` meets its contract. Assumes nothing.
 use borrow.Author.Needs.{needs}
 use Rattle.table.proofs.Places.{failed, held}
-use Rattle.table.proofs.formed.is_placed.Statement.{statement}
-use Rattle.table.proofs.formed.is_placed.Tie as tie
+use Rattle.formed.proofs.is_placed.Statement.{statement}
+use Rattle.formed.proofs.is_placed.Tie as tie
 
 pub is-placed-spec : {M : Type 1} → statement M
 is-placed-spec =

@@ -6,21 +6,11 @@ ghost use Prim.Native.Nat.{_+_, _*_, _%_, _≤_};
 ghost use lib.Dec.{eqb, leb};
 ghost use Rattle.scan.specs.Classes.{isBetween};
 ghost use Rattle.stream.specs.Streams.{isSound};
 ghost use Rattle.table.specs.Table.{isDead};
-ghost use Rattle.table.specs.Formed.{areSizes, isSeated, isEmpty, isProper, wellFormed};
-use crate::SatBox;
-use crate::Session;
-use crate::numbers::are_distinct;
-use crate::numbers::is_among;
+ghost use Rattle.table.specs.Formed.{isSeated, isEmpty, isProper, wellFormed};
 use stream::Stream;
-
-pub(crate) fn are_sizes(frontends: u16, size: u32) -> bool
-    ensures { λ r. ⌜ r ≡ areSizes frontends size ⌝ }
-{
-    ((1 <= frontends) & (frontends <= SatBox::MOST_FRONTENDS))
-        & (((SatBox::LEAST_SIZE <= size) & (size <= SatBox::MOST_SIZE))
-            & (size % SatBox::RECORD == 0))
-}
+use table::SatBox;
+use table::Session;
 
 fn is_empty(s: Session) -> bool
     ensures { λ r. ⌜ r ≡ isEmpty s ⌝ }
@@ -100,7 +90,7 @@ pub fn is_well_formed(t: SatBox) -> bool
         if !is_id(id) {
             return false;
         }
-        if (t.streams[id - 1].frontend == 0) | is_among(&numbers[0..opens], s.number) {
+        if (t.streams[id - 1].frontend == 0) | table::is_among(&numbers[0..opens], s.number) {
             return false;
         }
         numbers[opens] = s.number;
@@ -117,5 +107,7 @@ pub fn is_well_formed(t: SatBox) -> bool
             return false;
         }
     }
-    are_sizes(t.frontends, t.size) & are_distinct(&feeds) & is_fitting(t.held, t.size, opens)
+    table::are_sizes(t.frontends, t.size)
+        & table::are_distinct(&feeds)
+        & is_fitting(t.held, t.size, opens)
 }
