@@ -1,29 +1,29 @@
 -- What becomes of each session in a closing and in a sweep: it stays as it is, or it leaves and its closing's record is written. Assumes nothing.
 use mathlib.Core.Path.{_≡_, refl, sym, _∙_, ap, subst}
 use mathlib.Core.Bool.{Bool, true, false}
-use mathlib.Core.List.{List, [], _∷_, _++_, map}
+use mathlib.Core.List.{List, [], _∷_, _++_}
 use Prim.Native.Nat.{ℕ, zero, suc, _≤_, _<_}
 use native.Mathlib.Omega.{arith}
 use lib.Dec.{eqb}
-use lib.ListN.{getD, set}
+use lib.ListN.{set}
 use lib.Seq.{getD-set-other}
 use borrow.Author.Tests.{eq-eqb, ne-eqb}
 use Rattle.scan.proofs.Bools.{never, or-right, Case, is, isnt, case, Same, same, other, sames, cond-keeps, by-test}
 use Rattle.journal.specs.declared.Record.{Record}
-use Rattle.stream.specs.Streams.{noStream, pastStream}
+use Rattle.stream.specs.Streams.{noStream}
 use Rattle.stream.specs.declared.Stream.{Stream}
 use Rattle.table.specs.Counts.{any, count}
-use Rattle.table.specs.Table.{noSession, sessionAt, streamIn, streamOf, withStream, isOn}
+use Rattle.table.specs.Table.{noSession, sessionAt, streamOf, isOn}
 use Rattle.table.specs.declared.Session.{Session}
 use Rattle.table.specs.declared.SatBox.{SatBox}
 use Rattle.table.proofs.Counts.{getD-set-here, count-zero-at, count-cleared-none}
-use Rattle.table.proofs.Changes.{clear}
 use Rattle.closings.specs.Did.{Did, nothing, then, when, upto, restreamed, reseated, noting}
 use Rattle.closings.specs.Does.{Roomy, Closable}
 use Rattle.closings.specs.Closing.{closeOne, closeOn, cascade, free, closing, isExpired, sweepAt}
 use Rattle.closings.proofs.Closings.{closable, closeOne-fine, closeOn-fine}
 use Rattle.closings.proofs.Keeping.{Whole, whole-roomy, sweepAt-whole, cascade-sessions}
 use Rattle.closings.proofs.Runs.{upto-keeps, upto-holds}
+use Rattle.promises.proofs.Methods.{stream-other, getD-clear}
 use Rattle.lives.specs.Closed.{isClosing}
 
 -- the session s of t in the table after d, where `after` stands in its place
@@ -102,11 +102,6 @@ cascade-fates id t r =
     upto-holds Roomy Fates fates-nothing fates-then (closeOn id) 32 (λ i u h q. closeOn-fine id i u h q .roomy) (closeOn-fates id) t r 32 (omega arith)
 
 -- A STREAM IS FREED that nobody is on
-pub stream-other : (id k : ℕ) (m : Stream) (ms : List Stream) → (k ≡ id → ⊥) → streamIn (withStream id m ms) k ≡ streamIn ms k
-stream-other zero k m ms h = refl
-stream-other (suc id) zero m ms h = refl
-stream-other (suc id) (suc k) m ms h = getD-set-other ms id k m pastStream (λ e. h (ap suc e))
-
 -- who is not on it, and open, is on another
 off-stream : (id : ℕ) (s : Session) → isOn id s ≡ false → (s .number ≡ 0 → ⊥) → s .stream ≡ id → ⊥
 off-stream id s e some q = never (rw (ne-eqb (s .number) 0 some, eq-eqb (s .stream) id q)) e
@@ -124,11 +119,6 @@ module _ (t : SatBox) (d : Did) (id : ℕ) (none : count (isOn id) (d .satbox .s
   fates-freed : Fates t d → Fates t (then d (free id))
   unfolding restreamed
   fates-freed p = record { clock = p .clock; each = λ k. freed-fate k (sessionAt t k) (p .each k) }
-
-pub getD-clear : (id : ℕ) (l : List Session) (k : ℕ) → getD (map (clear id) l) k noSession ≡ clear id (getD l k noSession)
-getD-clear id [] k = refl
-getD-clear id (s ∷ l) zero = refl
-getD-clear id (s ∷ l) (suc k) = getD-clear id l k
 
 -- A CLOSING
 module _ (cause i : ℕ) (t : SatBox) (c : Closable t i) where

@@ -16,8 +16,8 @@ use Rattle.table.specs.Table.{noSession, has, streamIn, withStream, isOn, owns}
 use Rattle.table.specs.declared.Session.{Session}
 use Rattle.table.proofs.Counts.{bit-no, bit-yes, count-set, count-zero-at, none-count, getD-set-alike}
 use Rattle.promises.proofs.Serving.{Alike}
+use Rattle.promises.proofs.Methods.{stream-other}
 use Rattle.lives.specs.Audit.{Frontend, unheld, heldBy, letGo, closedBy, notedBy, auditedFrom, isHolder, keeps}
-use Rattle.lives.proofs.Fates.{stream-other}
 
 -- SOME ELEMENT PASSES, after one is set
 module _ {A : Type 0} where

@@ -23,8 +23,9 @@ use Rattle.closings.proofs.Keeping.{Whole, owner-sessions}
 use Rattle.promises.proofs.Passing.{served-by, tears-closable}
 use Rattle.promises.proofs.Requests.{answered-by}
 use Rattle.promises.proofs.Records.{closed-is}
+use Rattle.promises.proofs.Methods.{getD-clear}
 use Rattle.lives.specs.Closed.{Closed, placeNamedBy}
-use Rattle.lives.proofs.Fates.{getD-clear, closing-fates, closed-here}
+use Rattle.lives.proofs.Fates.{closing-fates, closed-here}
 use Rattle.lives.proofs.Sweeps.{left-closed}
 
 module _ (cause place : ℕ) (t : SatBox) (c : Closable t place) where
@@ -41,9 +42,9 @@ module _ (cause place : ℕ) (t : SatBox) (c : Closable t place) where
       ap (λ (l : List Session). getD l i noSession) (owner-sessions cause place t c w own) ∙ (getD-clear id (t .sessions) i ∙ rw on)
 
 -- what it does
-record Torn (t : SatBox) (place : ℕ) (d : Did) : Type 0 where
-  is : d ≡ closing 1 place t
-  closable : Closable t place
+pub record Torn (t : SatBox) (place : ℕ) (d : Did) : Type 0 where
+  pub is : d ≡ closing 1 place t
+  pub closable : Closable t place
 
 served-torn : (t : SatBox) (a : Asked) (l : Lists) (client : Client) → Whole t → a .method ≡ Teardown → isPassed (served t a l client .case) ≡ true → Torn t (sightOf t a .place) (served t a l client .did)
 served-torn t a l client w e y =
@@ -53,7 +54,7 @@ served-torn t a l client w e y =
           served-by t a l client (λ (x : Serving). isPassed (x .case) ≡ true → Closable t (sightOf t a .place)) (λ p q n. tears-closable t a w p e) (λ n p. never p n) y;
     }
 
-answered-torn : (s : List ℕ) (address draw : ℕ) (t : SatBox) → Whole t → methodOf s ≡ Teardown → isPassed (answered s address draw t .case) ≡ true → Torn t (placeNamedBy s t) (answered s address draw t .did)
+pub answered-torn : (s : List ℕ) (address draw : ℕ) (t : SatBox) → Whole t → methodOf s ≡ Teardown → isPassed (answered s address draw t .case) ≡ true → Torn t (placeNamedBy s t) (answered s address draw t .did)
 unfolding sightOf
 answered-torn s address draw t w e =
     let a = askedOf (t .frontends) s in

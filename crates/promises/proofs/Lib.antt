@@ -4,6 +4,7 @@ pub mod Requests
 pub mod Records
 pub mod Written
 pub mod Reading
+pub mod Methods
 pub mod Asks
 pub mod EdgeLaws
 pub mod Edges
