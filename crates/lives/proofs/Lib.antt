@@ -9,9 +9,11 @@ pub mod Rooms
 pub mod Fates
 pub mod Sweeps
 pub mod Young
+pub mod Hearing
 pub mod Teardowns
 pub mod InCalls
 pub mod Keepers
+pub mod Faring
 pub mod Agreeing
 pub mod Seating
 pub mod Chains

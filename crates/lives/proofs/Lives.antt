@@ -3,21 +3,24 @@
 -- Every call of a life is one that comes after others, so what holds after every sequence holds after every call. Assumes nothing.
 use mathlib.Core.Path.{_≡_, sym, _∙_, ap}
 use mathlib.Core.Bool.{true, false}
-use mathlib.Core.List.{List, [], _++_}
+use mathlib.Core.List.{List, [], _∷_, _++_}
 use mathlib.Core.Logic.{_↔_}
 use Prim.Native.Nat.{ℕ, _+_, _*_, _%_, _≤_, _<_, max}
 use native.Mathlib.Omega.{arith}
 use lib.ListN.{length, take, getD}
-use Rattle.aim.specs.declared.Method.the-variants.{Teardown}
+use Rattle.scan.specs.Lists.{all}
+use Rattle.aim.specs.declared.Method.the-variants.{Options, Teardown}
 use Rattle.aim.specs.declared.refusals.Refusal.the-variants as refusal
 use Rattle.reader.specs.Request.{methodOf, requestRefusal}
 use Rattle.journal.specs.Calls.{readAt}
 use Rattle.journal.specs.declared.Record.{Record}
 use Rattle.journal.specs.declared.Reading.the-variants.{Sound}
+use Rattle.table.specs.Counts.{any}
 use Rattle.table.specs.Table.{isOpen, opens, sessionAt, isOn, owns}
 use Rattle.table.specs.Formed.{wellFormed}
 use Rattle.table.specs.Finding.{isHeld}
 use Rattle.table.specs.Made.{fresh}
+use Rattle.table.specs.declared.Session.{Session}
 use Rattle.table.specs.declared.SatBox.{SatBox}
 use Rattle.table.specs.declared.Outcome.the-variants.{Done}
 use Rattle.steps.specs.Asked.{askedOf, listsOf}
@@ -29,15 +32,17 @@ use Rattle.satbox.specs.Requests.{requested, replied}
 use Rattle.closings.proofs.DoesLaws.{bytes-append}
 use Rattle.closings.proofs.Keeping.{whole-formed}
 use Rattle.lives.specs.Calls.{Lent, Call, request, outcomeOf, refusedBy, satboxAfter, journalAfter, recordsIn, uncollected, lacksJournal, isCall}
-use Rattle.lives.specs.Runs.{Life, live, Lives, after}
-use Rattle.lives.specs.Closed.{Closed, placeNamedBy, Sweeps}
+use Rattle.lives.specs.Runs.{Life, live, run, recordsOf, Lives, after}
+use Rattle.lives.specs.Closed.{Closed, isClosingOf, isTimeOut, Fares, placeNamedBy, isKeepAlive, Sweeps}
 use Rattle.lives.specs.Openings.{PassesElse}
 use Rattle.lives.specs.Audit.{letGo, audited, isTaken, isHolder, holds}
 use Rattle.lives.specs.Moments.{Leads, LetGo}
 use Rattle.lives.proofs.Journals.{counts-at, counts-next}
 use Rattle.lives.proofs.Running.{live-good, after-good, swept-fed, swept-sized}
 use Rattle.lives.proofs.Refusals.{call-gated}
-use Rattle.lives.proofs.Young.{young-after}
+use Rattle.lives.proofs.Young.{young-after, after-young}
+use Rattle.lives.proofs.Hearing.{hears-late, kept-hears, kept-fares}
+use Rattle.lives.proofs.Faring.{unkept-fares, unkept-closed}
 use Rattle.lives.proofs.InCalls.{expired-in, lost-in, torn-in, left-in}
 use Rattle.lives.proofs.Chains.{leads-agree}
 use Rattle.lives.proofs.Audits.{live-leads, after-leads}
@@ -136,6 +141,42 @@ module _ (frontends size : ℕ) (j : List ℕ) (cs : List Call) where
           → Closed v i (satboxAfter c (x .satbox) (x .journal)) (recordsIn c (x .satbox) (x .journal))
       unfolding replied
       left-by-owner-is-closed = left-in s clock address draw b l (x .satbox) (x .journal) done (after-good h .whole) tears passed
+
+    -- WHO IS KEPT: a session that an OPTIONS answered 200 names, in the box after expired sessions are closed; after this call and any others
+    module _ (s : List ℕ) (clock address draw : ℕ) (b : List ℕ) (l : Lent) (ds : List Call) where
+      abbrev options : Call
+      options = request s clock address draw b l
+
+      abbrev y : Life
+      y = live options x
+
+      abbrev seat : ℕ
+      seat = placeNamedBy s (sweeping clock (x .satbox) .satbox)
+
+      abbrev kept : Session
+      kept = sessionAt (sweeping clock (x .satbox) .satbox) seat
+
+      module _ (calls : all (isCall size) (options ∷ ds) ≡ true) (done : outcomeOf options (x .satbox) (x .journal) ≡ Done) (keep : methodOf s ≡ Options)
+          (passed : isPassed (requested s clock address draw (x .satbox) .case) ≡ true) (named : seat < 32) where
+        -- is not closed for its age before the clock used plus 60: each record of those others that says so (`isTimeOut`) has that clock or a later one,
+        pub kept-is-not-timed-out : (i : ℕ) (past : Record) → i < length (recordsOf ds y) → isTimeOut (kept .number) (getD (recordsOf ds y) i past) ≡ true
+            → max (x .satbox .clock) clock + 60 ≤ getD (recordsOf ds y) i past .clock
+        kept-is-not-timed-out = hears-late (kept-hears (after-good h) s clock address draw b l done keep passed named ds calls)
+
+        -- and is open at its place, with a last time of the clock used or later, or one of the records says that it closed (`Fares`)
+        pub kept-stays : Fares (kept .number) seat (λ last. max (x .satbox .clock) clock ≤ last) (run ds y .satbox) (recordsOf ds y)
+        kept-stays = kept-fares (after-good h) s clock address draw b l done keep passed named ds calls
+
+    -- WHO IS NOT: an open session, after any calls of which none is an OPTIONS that has its number (`isKeepAlive`)
+    module _ (i : ℕ) (some : isOpen (sessionAt (x .satbox) i) ≡ true) (ds : List Call) (calls : all (isCall size) ds ≡ true)
+        (unkept : any (isKeepAlive (sessionAt (x .satbox) i .number)) ds ≡ false) where
+      -- is open at its place, with the last time that it had, or one of the records says that it closed,
+      pub unkept-stays : Fares (sessionAt (x .satbox) i .number) i (λ last. last ≡ sessionAt (x .satbox) i .last) (run ds x .satbox) (recordsOf ds x)
+      unkept-stays = unkept-fares (after-good h) (after-young h) i some ds calls unkept
+
+      -- and is closed by the first request or tick at its last time plus 60 or later: once the box's clock is that, one of the records says so
+      pub unkept-is-closed : sessionAt (x .satbox) i .last + 60 ≤ run ds x .satbox .clock → any (isClosingOf (sessionAt (x .satbox) i .number)) (recordsOf ds x) ≡ true
+      unkept-is-closed = unkept-closed (after-good h) (after-young h) i some ds calls unkept
 
     -- 5. AN OPENING THAT PASSES EVERY OTHER CHECK (`requestRefusal`: steps 1 to 10; `PassesElse`: the others), with any bytes s, at any clock,
     module _ (s : List ℕ) (clock address draw : ℕ) where

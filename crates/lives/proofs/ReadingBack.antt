@@ -122,7 +122,7 @@ run-fitted {size = size} (c ∷ cs) e g f =
     let p = and-both (isCall size c) _ e in
     run-fitted cs (p .1) (live-good g c (p .0)) (live-fitted g f c (p .0))
 
-free-place : (n k : ℕ) → getD (replicate n noSession) k noSession ≡ noSession
+pub free-place : (n k : ℕ) → getD (replicate n noSession) k noSession ≡ noSession
 free-place zero k = refl
 free-place (suc n) zero = refl
 free-place (suc n) (suc k) = free-place n k

@@ -38,7 +38,7 @@ owner-place l id m y =
     (λ h. never y (subst (λ (x : Session). owns id x ≡ false) (sym (List·getD-eq-default l noSession {n = m} (omega arith))) refl))
 
 module _ (t : SatBox) (w : Whole t) where
-  swept-fates : Fates t (swept t)
+  pub swept-fates : Fates t (swept t)
   unfolding swept
   swept-fates = upto-fates t w 32 (omega arith)
 

@@ -1,34 +1,39 @@
 -- After a request or a tick no open session has expired: what the sweep left is not, and nothing that a request does makes one so. Assumes nothing.
 use mathlib.Core.Path.{_≡_, refl, sym, subst}
-use mathlib.Core.Bool.{false, and-false}
-use mathlib.Core.List.{List}
+use mathlib.Core.Bool.{true, false, and-false}
+use mathlib.Core.List.{List, [], _∷_}
 use mathlib.Core.Logic.{_⊎_, inl, inr}
 use Prim.Native.Nat.{ℕ, _-_, max}
 use native.Mathlib.Omega.{arith}
 use borrow.Author.Tests.{lt-leb}
-use Rattle.scan.proofs.Bools.{cond-keeps}
+use Rattle.scan.specs.Lists.{all}
+use Rattle.scan.proofs.Bools.{and-both, cond-keeps}
 use Rattle.stream.specs.declared.Stream.{Stream}
 use Rattle.table.specs.Table.{noSession, isOpen, sessionAt}
 use Rattle.table.specs.Finding.{lowestPlace, lowestId}
 use Rattle.table.specs.declared.Session.{Session}
 use Rattle.table.specs.declared.SatBox.{SatBox}
 use Rattle.table.specs.declared.Outcome.{Outcome}
-use Rattle.table.specs.declared.Outcome.the-variants.{Done}
+use Rattle.table.specs.declared.Outcome.the-variants.{Done, Refused}
 use Rattle.table.proofs.Counts.{getD-set-all}
 use Rattle.closings.specs.Did.{Did, nothing, restreamed, reseated, noting}
 use Rattle.closings.specs.Does.{Closable}
 use Rattle.closings.specs.Closing.{isExpired, closing, sweeping, atClock}
 use Rattle.serving.specs.Opening.{guest, seating as seated, canJoin, joining, canOpen, opening}
-use Rattle.satbox.specs.Calls.{ifDone, ticked}
+use Rattle.satbox.specs.Calls.{ifDone, tickOutcome, ticked, collectOutcome, collected, emptied}
 use Rattle.serving.specs.Serving.{replaced, answered}
-use Rattle.satbox.specs.Requests.{requested, replied}
+use Rattle.satbox.specs.Requests.{requestOutcome, requested, replied}
 use Rattle.serving.specs.declared.opening.Client.{Client}
 use Rattle.closings.proofs.Keeping.{Whole, clock-whole}
 use Rattle.satbox.proofs.Kept.{sweeping-whole}
-use Rattle.lives.specs.Calls.{Call, outcomeOf, satboxAfter}
+use Rattle.lives.specs.Calls.{lent, Call, request, tick, collect, order, outcomeOf, satboxAfter, isCall}
+use Rattle.lives.specs.Runs.{Life, live, run, Lives, after}
 use Rattle.lives.specs.Closed.{Sweeps, in-request, in-tick}
 use Rattle.lives.proofs.Requests.{Kin, Retuned, retuned-same, answered-holds}
-use Rattle.lives.proofs.Settings.{sweeping-set}
+use Rattle.lives.proofs.Settings.{sweeping-set, requested-set}
+use Rattle.lives.proofs.Holding.{Good, born-good}
+use Rattle.lives.proofs.Running.{live-good}
+use Rattle.lives.proofs.ReadingBack.{free-place}
 use Rattle.lives.proofs.Fates.{aged-after, closing-fates}
 use Rattle.lives.proofs.Sweeps.{none-expired}
 
@@ -103,3 +108,29 @@ young-after (in-request {s = s} {clock = clock} {address = address} {draw = draw
     subst (λ (o : Outcome). Young (max (t .clock) clock) (ifDone o (requested s clock address draw t .did .satbox) t)) (sym e) (requested-young s clock address draw t w)
 young-after (in-tick {clock = clock}) t j e w =
     subst (λ (o : Outcome). Young (max (t .clock) clock) (ifDone o (sweeping clock t .satbox) t)) (sym e) (sweeping-young clock t w)
+
+-- A RUN of them: at the box's own clock
+done-young : (o : Outcome) (t u : SatBox) → Young (t .clock) t → Young (u .clock) u → Young (ifDone o u t .clock) (ifDone o u t)
+done-young Done t u a b = b
+done-young (Refused r) t u a b = a
+
+live-young : {frontends size : ℕ} {x : Life} → Good frontends size x → (c : Call) → Young (x .satbox .clock) (x .satbox) → Young (live c x .satbox .clock) (live c x .satbox)
+unfolding live replied ticked collected emptied
+live-young {x = x} g (request s clock address draw b l) y =
+    let u = requested s clock address draw (x .satbox) .did .satbox in
+    done-young (requestOutcome (x .satbox) (lent l (x .journal)) b) (x .satbox) u y
+    (subst (λ n. Young n u) (sym (requested-set s clock address draw (x .satbox) (g .whole) .clock)) (requested-young s clock address draw (x .satbox) (g .whole)))
+live-young {x = x} g (tick clock l) y =
+    let u = sweeping clock (x .satbox) .satbox in
+    done-young (tickOutcome (x .satbox) (lent l (x .journal))) (x .satbox) u y
+    (subst (λ n. Young n u) (sym (sweeping-set clock (x .satbox) (g .whole) .clock)) (sweeping-young clock (x .satbox) (g .whole)))
+live-young {x = x} g (collect b l) y = done-young (collectOutcome (x .satbox) (lent l (x .journal)) b) (x .satbox) (emptied (x .satbox)) y y
+live-young g (order f) y = y
+
+pub run-young : {frontends size : ℕ} (cs : List Call) {x : Life} → all (isCall size) cs ≡ true → Good frontends size x → Young (x .satbox .clock) (x .satbox) → Young (run cs x .satbox .clock) (run cs x .satbox)
+run-young [] e g y = y
+run-young {size = size} (c ∷ cs) e g y = let p = and-both (isCall size c) _ e in run-young cs (p .1) (live-good g c (p .0)) (live-young g c y)
+
+pub after-young : {frontends size : ℕ} {j : List ℕ} {cs : List Call} → Lives frontends size j cs → Young (after frontends size j cs .satbox .clock) (after frontends size j cs .satbox)
+after-young {frontends} {size} {j} {cs} h =
+    run-young cs (h .calls) (born-good frontends size j (h .sizes) (h .journal)) (λ k. subst (λ (s : Session). isExpired 0 s ≡ false) (sym (free-place 32 k)) refl)

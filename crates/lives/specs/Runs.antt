@@ -41,6 +41,11 @@ abbrev pub run : List Call → Life → Life
 run [] x = x
 run (c ∷ cs) x = run cs (live c x)
 
+-- the records that the calls of a run write, in their order
+abbrev pub recordsOf : List Call → Life → List Record
+recordsOf [] x = []
+recordsOf (c ∷ cs) x = recordsIn c (x .satbox) (x .journal) ++ recordsOf cs (live c x)
+
 -- a life of the calls cs: F and C are in range, the first journal has length C, and each call is one that a caller may make
 pub record Lives (frontends size : ℕ) (j : List ℕ) (cs : List Call) : Type 0 where
   pub sizes : areSizes frontends size ≡ true

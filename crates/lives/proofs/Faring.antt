@@ -1,0 +1,249 @@
+-- What becomes of one session in any calls: it stays at its place, and its last time with it unless an OPTIONS names it; or a record says that it closed.
+-- Assumes nothing.
+use mathlib.Core.Path.{_≡_, refl, sym, _∙_, ap, subst}
+use mathlib.Core.Bool.{Bool, true, false}
+use mathlib.Core.List.{List, [], _∷_, _++_}
+use mathlib.Core.Logic.{_⊎_, inl, inr}
+use Prim.Native.Nat.{ℕ, _+_, _-_, _≤_, _<_, max}
+use native.Mathlib.Decide.{decLt}
+use native.Mathlib.Omega.{arith}
+use lib.Dec.{eqb, ltb}
+use lib.ListN.{length, List·getD-eq-default}
+use borrow.Author.Tests.{eq-eqb, ne-eqb, eqb-true, ltb-true, lt-ltb, le-leb}
+use Rattle.scan.specs.Lists.{all}
+use Rattle.scan.proofs.Bools.{never, and-both, both, or-neither, by-cases, Case, is, isnt, case, Same, same, other, sames}
+use Rattle.aim.specs.declared.Method.{Method}
+use Rattle.aim.specs.declared.Method.the-variants.{Options, Setup, Play, Teardown, Other}
+use Rattle.lines.specs.Lines.{headerLines}
+use Rattle.lines.specs.Headers.{valuesOf}
+use Rattle.reader.specs.Fields.{sessionOf}
+use Rattle.reader.specs.Request.{methodOf}
+use Rattle.reader.specs.declared.fields.Session.{Session as Sent}
+use Rattle.reader.specs.declared.fields.Session.the-variants.{Absent, Malformed, Named}
+use Rattle.journal.specs.declared.Record.{Record}
+use Rattle.stream.specs.declared.Stream.{Stream}
+use Rattle.table.specs.Counts.{any}
+use Rattle.table.specs.Table.{noSession, has, isFree, isOpen, sessionAt, streamOf}
+use Rattle.table.specs.Finding.{lowestPlace}
+use Rattle.table.specs.declared.Session.{Session}
+use Rattle.table.specs.declared.SatBox.{SatBox}
+use Rattle.table.specs.declared.Outcome.{Outcome}
+use Rattle.table.specs.declared.Outcome.the-variants.{Done, Refused}
+use Rattle.table.proofs.Counts.{first-passes}
+use Rattle.table.proofs.Changes.{opened}
+use Rattle.steps.specs.Asked.{askedOf}
+use Rattle.steps.specs.Sights.{numberOf, placeNamed}
+use Rattle.steps.specs.Cases.{isPassed}
+use Rattle.closings.specs.Did.{Did}
+use Rattle.closings.specs.Closing.{sweeping, atClock}
+use Rattle.serving.specs.Serving.{answered}
+use Rattle.satbox.specs.Calls.{ifDone, tickOutcome, ticked, collectOutcome, collected, emptied}
+use Rattle.satbox.specs.Requests.{requestOutcome, requested, replied}
+use Rattle.closings.proofs.Keeping.{Whole, clock-whole}
+use Rattle.satbox.proofs.Kept.{sweeping-whole}
+use Rattle.promises.proofs.Requests.{answered-still}
+use Rattle.promises.proofs.Methods.{Changes, options-refreshes, options-alone, other-alone, setup-replaces, play-marks, setup-joins, setup-opens}
+use Rattle.lives.specs.Calls.{lent, Call, request, tick, collect, order, recordsIn, isCall}
+use Rattle.lives.specs.Runs.{Life, live, run, recordsOf}
+use Rattle.lives.specs.Closed.{isClosing, isClosingOf, Fares, remains, closed, placeNamedBy, isOptions, isKeepAlive}
+use Rattle.lives.proofs.Settings.{sweeping-set, requested-set}
+use Rattle.lives.proofs.Holding.{Good}
+use Rattle.lives.proofs.Running.{live-good}
+use Rattle.lives.proofs.Fates.{Fate, stays, leaves, any-left, any-right, closing-fates}
+use Rattle.lives.proofs.Sweeps.{swept-fates}
+use Rattle.lives.proofs.Keepers.{any-less}
+use Rattle.lives.proofs.Young.{Young, run-young}
+use Rattle.lives.proofs.Teardowns.{answered-torn}
+
+any-more : (p q : Record → Bool) → ((r : Record) → p r ≡ true → q r ≡ true) → (rs : List Record) → any p rs ≡ true → Case (any q rs) → any q rs ≡ true
+any-more p q h rs y (is z) = z
+any-more p q h rs y (isnt z) = never y (any-less p q h rs z)
+
+closing-closes : (clock frontend n : ℕ) (s : Session) → s .number ≡ n → (r : Record) → isClosing clock frontend s r ≡ true → isClosingOf n r ≡ true
+closing-closes clock frontend n s a r z =
+    let b = and-both (eqb (r .kind) 3) _ z in
+    let c = and-both (eqb (r .session) (s .number)) _ (and-both (eqb (r .clock) clock) _ (b .1) .1) in
+    both (b .0) (eq-eqb (r .session) n (eqb-true _ _ (c .0) ∙ a))
+
+-- the session that a header names has its number
+named-number : (t : SatBox) → length (t .sessions) ≡ 32 → (sent : Sent) → placeNamed sent t < 32 → sessionAt t (placeNamed sent t) .number ≡ numberOf sent
+named-number t n Absent l = absurd (omega arith)
+named-number t n Malformed l = absurd (omega arith)
+named-number t n (Named m) l = by (sames m 0) l
+  where
+    by : Same m 0 → placeNamed (Named m) t < 32 → sessionAt t (placeNamed (Named m) t) .number ≡ m
+    by (same e) l = let z = rw (eq-eqb m 0 e) at l in absurd (omega arith)
+    by (other e) l = rw (ne-eqb m 0 e) (eqb-true _ _ (first-passes (has m) (t .sessions) noSession (let z = rw (ne-eqb m 0 e) at l in omega arith)))
+
+-- the clock never falls
+done-later : (o : Outcome) {c : ℕ} (t u : SatBox) → c ≤ t .clock → c ≤ u .clock → c ≤ ifDone o u t .clock
+done-later Done t u a b = b
+done-later (Refused r) t u a b = a
+
+clock-later : {frontends size c : ℕ} {x : Life} → Good frontends size x → (k : Call) → c ≤ x .satbox .clock → c ≤ live k x .satbox .clock
+unfolding live replied ticked collected emptied
+clock-later {x = x} g (request s clock address draw b l) h =
+    done-later (requestOutcome (x .satbox) (lent l (x .journal)) b) (x .satbox) (requested s clock address draw (x .satbox) .did .satbox) h (omega (arith, requested-set s clock address draw (x .satbox) (g .whole) .clock))
+clock-later {x = x} g (tick clock l) h =
+    done-later (tickOutcome (x .satbox) (lent l (x .journal))) (x .satbox) (sweeping clock (x .satbox) .satbox) h (omega (arith, sweeping-set clock (x .satbox) (g .whole) .clock))
+clock-later {x = x} g (collect b l) h = done-later (collectOutcome (x .satbox) (lent l (x .journal)) b) (x .satbox) (emptied (x .satbox)) h h
+clock-later g (order f) h = h
+
+module _ (n i : ℕ) (some : n ≡ 0 → ⊥) (P : ℕ → Type 0) where
+  -- a closing and a sweep
+  fate-fares : {t : SatBox} {d : Did} {s after : Session} → Fate t d s after → sessionAt (d .satbox) i ≡ after → s .number ≡ n → P (s .last) → Fares n i P (d .satbox) (d .records)
+  fate-fares (stays e k) q a p = let z = q ∙ e in remains (ap (λ (x : Session). x .number) z ∙ a) (subst (λ (x : Session). P (x .last)) (sym z) p)
+  fate-fares {t} {d} {s} (leaves e k y) q a p =
+      closed (any-more _ (isClosingOf n) (closing-closes (t .clock) (streamOf t (s .stream) .frontend) n s a) (d .records) y (case _))
+
+  -- a session that is opened or changed at some place
+  changes-fares : {t u : SatBox} {place id : ℕ} {s : Session} {m : Stream} → Changes t u place s id m → sessionAt t i .number ≡ n → P (sessionAt t i .last)
+      → (i ≡ place → (s .number ≡ n) × P (s .last)) → (rs : List Record) → Same i place → Fares n i P u rs
+  changes-fares {u = u} k a p new rs (same e) =
+      let z = ap (sessionAt u) e ∙ k .session in
+      remains (ap (λ (x : Session). x .number) z ∙ new e .0) (subst (λ (x : Session). P (x .last)) (sym z) (new e .1))
+  changes-fares k a p new rs (other e) =
+      let z = k .others i e in
+      remains (ap (λ (x : Session). x .number) z ∙ a) (subst (λ (x : Session). P (x .last)) (sym z) p)
+
+  inside : (t : SatBox) → Whole t → sessionAt t i .number ≡ n → i < 32
+  inside t w a =
+      by-cases (decLt i 32) (λ h. h)
+      (λ h. absurd (some (sym a ∙ ap (λ (x : Session). x .number) (List·getD-eq-default (t .sessions) noSession {n = i} (omega (arith, w .places))))))
+
+  module _ (s : List ℕ) (address draw : ℕ) (t : SatBox) (w : Whole t) (a : sessionAt t i .number ≡ n) (p : P (sessionAt t i .last)) where
+    -- its place is none that an opening takes
+    taken : i ≡ lowestPlace (t .sessions) → ⊥
+    taken e =
+        let free = first-passes isFree (t .sessions) noSession (omega (arith, inside t w a, w .places)) in
+        some (sym a ∙ (ap (λ k. sessionAt t k .number) e ∙ eqb-true _ _ free))
+
+    alone : {u : SatBox} → u ≡ t → (rs : List Record) → Fares n i P u rs
+    alone e rs = rw e (remains a p)
+
+    module _ (passed : isPassed (answered s address draw t .case) ≡ true) (kept : methodOf s ≡ Options → placeNamedBy s t ≡ i → P (t .clock)) where
+      abbrev rs : List Record
+      rs = answered s address draw t .did .records
+
+      at-place : i ≡ placeNamedBy s t → sessionAt t (placeNamedBy s t) .number ≡ n
+      at-place e = subst (λ k. sessionAt t k .number ≡ n) e a
+
+      last-at : i ≡ placeNamedBy s t → P (sessionAt t (placeNamedBy s t) .last)
+      last-at e = subst (λ k. P (sessionAt t k .last)) e p
+
+      options-fares : methodOf s ≡ Options → Case (ltb (placeNamedBy s t) 32) → Fares n i P (answered s address draw t .did .satbox) rs
+      options-fares m (is y) =
+          changes-fares (options-refreshes s address draw t w passed m (ltb-true _ _ y) .changes) a p (λ e. (at-place e, kept m (sym e))) rs (sames _ _)
+      options-fares m (isnt y) = alone (options-alone s address draw t w passed m (λ h. never (lt-ltb _ _ h) y)) rs
+
+      setup-fares : methodOf s ≡ Setup → Case (ltb (placeNamedBy s t) 32) → Same (askedOf (t .frontends) s .stream) 0 → Fares n i P (answered s address draw t .did .satbox) rs
+      setup-fares m (is y) k =
+          changes-fares (setup-replaces s address draw t w passed m (ltb-true _ _ y) .changes) a p (λ e. (at-place e, last-at e)) rs (sames _ _)
+      setup-fares m (isnt y) (same k) =
+          changes-fares (setup-opens s address draw t w passed m (λ h. never (lt-ltb _ _ h) y) k) a p (λ e. absurd (taken e)) rs (sames _ _)
+      setup-fares m (isnt y) (other k) =
+          changes-fares (setup-joins s address draw t w passed m (λ h. never (lt-ltb _ _ h) y) k) a p (λ e. absurd (taken e)) rs (sames _ _)
+
+      teardown-fares : methodOf s ≡ Teardown → Fares n i P (answered s address draw t .did .satbox) rs
+      teardown-fares m =
+          let torn = answered-torn s address draw t w m passed in
+          subst (λ (d : Did). Fares n i P (d .satbox) (d .records)) (sym (torn .is)) (fate-fares (closing-fates 1 (placeNamedBy s t) t (torn .closable) .each i) refl a p)
+
+      method-fares : (m : Method) → methodOf s ≡ m → Fares n i P (answered s address draw t .did .satbox) rs
+      method-fares Options e = options-fares e (case _)
+      method-fares Setup e = setup-fares e (case _) (sames _ _)
+      method-fares Play e = changes-fares (play-marks s address draw t w passed e .changes) a p (λ e. (at-place e, last-at e)) rs (sames _ _)
+      method-fares Teardown e = teardown-fares e
+      method-fares Other e = alone (other-alone s address draw t w passed e) rs
+
+    answered-fares : (methodOf s ≡ Options → placeNamedBy s t ≡ i → P (t .clock)) → Case (isPassed (answered s address draw t .case))
+        → Fares n i P (answered s address draw t .did .satbox) (answered s address draw t .did .records)
+    answered-fares kept (is y) = method-fares y kept (methodOf s) refl
+    answered-fares kept (isnt y) = rw (answered-still s address draw t y) (remains a p)
+
+  -- THE CALLS, and any run of them
+  more-fares : {t : SatBox} (qs : List Record) {rs : List Record} → Fares n i P t rs → Fares n i P t (qs ++ rs)
+  more-fares qs (remains a p) = remains a p
+  more-fares qs {rs} (closed y) = closed (any-right (isClosingOf n) qs rs y)
+
+  then-fares : {t u : SatBox} {qs rs : List Record} → Fares n i P t qs → (sessionAt t i .number ≡ n → P (sessionAt t i .last) → Fares n i P u rs) → Fares n i P u (qs ++ rs)
+  then-fares {qs = qs} (remains a p) f = more-fares qs (f a p)
+  then-fares {qs = qs} {rs = rs} (closed y) f = closed (any-left (isClosingOf n) qs rs y)
+
+  done-fares : (o : Outcome) {t u : SatBox} {rs : List Record} → Fares n i P u rs → Fares n i P t [] → Fares n i P (ifDone o u t) (ifDone o rs [])
+  done-fares Done a b = a
+  done-fares (Refused r) a b = b
+
+  module _ (t : SatBox) (w : Whole t) (a : sessionAt t i .number ≡ n) (p : P (sessionAt t i .last)) where
+    swept-fares : (clock : ℕ) → Fares n i P (sweeping clock t .satbox) (sweeping clock t .records)
+    unfolding atClock
+    swept-fares clock = fate-fares (swept-fates (atClock clock t) (clock-whole clock t w) .each i) refl a p
+
+    requested-fares : (s : List ℕ) (clock address draw : ℕ)
+        → (methodOf s ≡ Options → eqb (numberOf (sessionOf (valuesOf 1 (headerLines s)))) n ≡ true → P (max (t .clock) clock))
+        → Fares n i P (requested s clock address draw t .did .satbox) (requested s clock address draw t .did .records)
+    unfolding requested
+    requested-fares s clock address draw kept =
+        let v = sweeping clock t .satbox in
+        let u = sweeping-whole clock t w in
+        then-fares (swept-fares clock)
+        (λ b q. answered-fares s address draw v u b q
+        (λ m e.
+        let l : placeNamedBy s v < 32 = omega (arith, inside v u b) in
+        subst P (sym (sweeping-set clock t w .clock))
+        (kept m (eq-eqb _ n (sym (named-number v (u .places) (sessionOf (valuesOf 1 (headerLines s))) l) ∙ (ap (λ k. sessionAt v k .number) e ∙ b))))) (case _))
+
+  -- from a clock c on, at each later clock P holds where an OPTIONS names it
+  module _ (c : ℕ) where
+    emptied-fares : (o : Outcome) {t : SatBox} → Fares n i P t [] → Fares n i P (ifDone o (emptied t) t) []
+    unfolding emptied
+    emptied-fares Done (remains a p) = remains a p
+    emptied-fares Done (closed y) = closed y
+    emptied-fares (Refused r) f = f
+
+    live-fares : {frontends size : ℕ} {x : Life} → Good frontends size x → c ≤ x .satbox .clock → (k : Call) → (isKeepAlive n k ≡ true → (m : ℕ) → c ≤ m → P m)
+        → sessionAt (x .satbox) i .number ≡ n → P (sessionAt (x .satbox) i .last) → Fares n i P (live k x .satbox) (recordsIn k (x .satbox) (x .journal))
+    unfolding live replied ticked collected
+    live-fares {x = x} g now (request s clock address draw b l) kept a p =
+        done-fares (requestOutcome (x .satbox) (lent l (x .journal)) b)
+        (requested-fares (x .satbox) (g .whole) a p s clock address draw (λ m e. kept (both (ap isOptions m) e) _ (omega arith))) (remains a p)
+    live-fares {x = x} g now (tick clock l) kept a p =
+        done-fares (tickOutcome (x .satbox) (lent l (x .journal))) (swept-fares (x .satbox) (g .whole) a p clock) (remains a p)
+    live-fares {x = x} g now (collect b l) kept a p = emptied-fares (collectOutcome (x .satbox) (lent l (x .journal)) b) (remains a p)
+    live-fares g now (order f) kept a p = remains a p
+
+    pub run-fares : {frontends size : ℕ} (ks : List Call) {x : Life} → all (isCall size) ks ≡ true → Good frontends size x → c ≤ x .satbox .clock
+        → ((m : ℕ) → c ≤ m → P m) ⊎ (any (isKeepAlive n) ks ≡ false)
+        → sessionAt (x .satbox) i .number ≡ n → P (sessionAt (x .satbox) i .last) → Fares n i P (run ks x .satbox) (recordsOf ks x)
+    run-fares [] e g now kept a p = remains a p
+    run-fares {size = size} (k ∷ ks) {x} e g now kept a p =
+        let q = and-both (isCall size k) _ e in
+        then-fares (live-fares g now k (first-kept kept) a p)
+        (λ b r. run-fares ks (q .1) (live-good g k (q .0)) (clock-later g k now) (rest-kept kept) b r)
+      where
+        first-kept : ((m : ℕ) → c ≤ m → P m) ⊎ (any (isKeepAlive n) (k ∷ ks) ≡ false) → isKeepAlive n k ≡ true → (m : ℕ) → c ≤ m → P m
+        first-kept (inl f) y = f
+        first-kept (inr z) y = never y (or-neither (isKeepAlive n k) _ z .0)
+
+        rest-kept : ((m : ℕ) → c ≤ m → P m) ⊎ (any (isKeepAlive n) (k ∷ ks) ≡ false) → ((m : ℕ) → c ≤ m → P m) ⊎ (any (isKeepAlive n) ks ≡ false)
+        rest-kept (inl f) = inl f
+        rest-kept (inr z) = inr (or-neither (isKeepAlive n k) _ z .1)
+
+-- WHOM NOTHING KEEPS keeps its last time; and once the clock is 60 later, a record says that it closed: nothing that is open has expired
+module _ {frontends size : ℕ} {x : Life} (g : Good frontends size x) (young : Young (x .satbox .clock) (x .satbox)) (i : ℕ) (some : isOpen (sessionAt (x .satbox) i) ≡ true)
+    (ds : List Call) (calls : all (isCall size) ds ≡ true) (unkept : any (isKeepAlive (sessionAt (x .satbox) i .number)) ds ≡ false) where
+  abbrev old : Session
+  old = sessionAt (x .satbox) i
+
+  pub unkept-fares : Fares (old .number) i (λ last. last ≡ old .last) (run ds x .satbox) (recordsOf ds x)
+  unkept-fares = run-fares (old .number) i (opened old some) (λ last. last ≡ old .last) 0 ds calls g (omega arith) (inr unkept) refl refl
+
+  pub unkept-closed : old .last + 60 ≤ run ds x .satbox .clock → any (isClosingOf (old .number)) (recordsOf ds x) ≡ true
+  unkept-closed late = by unkept-fares
+    where
+      by : Fares (old .number) i (λ last. last ≡ old .last) (run ds x .satbox) (recordsOf ds x) → any (isClosingOf (old .number)) (recordsOf ds x) ≡ true
+      by (closed y) = y
+      by (remains e f) =
+          let s = sessionAt (run ds x .satbox) i in
+          let there : isOpen s ≡ true = rw e some in
+          never (both there (le-leb 60 (run ds x .satbox .clock - s .last) (omega arith))) (run-young ds calls g young i)
