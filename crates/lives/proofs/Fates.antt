@@ -103,7 +103,7 @@ cascade-fates id t r =
 
 -- A STREAM IS FREED that nobody is on
 -- who is not on it, and open, is on another
-off-stream : (id : ℕ) (s : Session) → isOn id s ≡ false → (s .number ≡ 0 → ⊥) → s .stream ≡ id → ⊥
+pub off-stream : (id : ℕ) (s : Session) → isOn id s ≡ false → (s .number ≡ 0 → ⊥) → s .stream ≡ id → ⊥
 off-stream id s e some q = never (rw (ne-eqb (s .number) 0 some, eq-eqb (s .stream) id q)) e
 
 module _ (t : SatBox) (d : Did) (id : ℕ) (none : count (isOn id) (d .satbox .sessions) ≡ 0) where

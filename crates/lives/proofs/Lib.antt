@@ -7,6 +7,7 @@ pub mod Running
 pub mod Refusals
 pub mod Rooms
 pub mod Fates
+pub mod Causes
 pub mod Sweeps
 pub mod Young
 pub mod Hearing
@@ -16,6 +17,7 @@ pub mod Keepers
 pub mod Faring
 pub mod Agreeing
 pub mod Seating
+pub mod Lasting
 pub mod Chains
 pub mod Watching
 pub mod Audits

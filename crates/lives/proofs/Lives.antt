@@ -3,7 +3,7 @@
 -- Every call of a life is one that comes after others, so what holds after every sequence holds after every call. Assumes nothing.
 use mathlib.Core.Path.{_≡_, sym, _∙_, ap}
 use mathlib.Core.Bool.{true, false}
-use mathlib.Core.List.{List, [], _∷_, _++_}
+use mathlib.Core.List.{List, [], _∷_, _++_, map}
 use mathlib.Core.Logic.{_↔_}
 use Prim.Native.Nat.{ℕ, _+_, _*_, _%_, _≤_, _<_, max}
 use native.Mathlib.Omega.{arith}
@@ -27,13 +27,14 @@ use Rattle.steps.specs.Asked.{askedOf, listsOf}
 use Rattle.steps.specs.Cases.{isPassed}
 use Rattle.steps.specs.declared.cases.Case.the-variants.{Passed, Full}
 use Rattle.closings.specs.Did.{bytesOf}
-use Rattle.closings.specs.Closing.{isExpired, sweeping}
+use Rattle.closings.specs.Closing.{isExpired, atClock, sweeping}
 use Rattle.satbox.specs.Requests.{requested, replied}
 use Rattle.closings.proofs.DoesLaws.{bytes-append}
 use Rattle.closings.proofs.Keeping.{whole-formed}
 use Rattle.lives.specs.Calls.{Lent, Call, request, outcomeOf, refusedBy, satboxAfter, journalAfter, recordsIn, uncollected, lacksJournal, isCall}
 use Rattle.lives.specs.Runs.{Life, live, run, recordsOf, Lives, after}
-use Rattle.lives.specs.Closed.{Closed, isClosingOf, isTimeOut, Fares, placeNamedBy, isKeepAlive, Sweeps}
+use Rattle.lives.specs.Closed.{Closed, isClosingOf, isTimeOut, Fares, placeNamedBy, isKeepAlive, Sweeps, Stays, TearsDown, Ends}
+use Rattle.lives.specs.Causes.{saysClosed, unnumbered, sweepClosings, teardownClosings}
 use Rattle.lives.specs.Openings.{PassesElse}
 use Rattle.lives.specs.Audit.{letGo, audited, isTaken, isHolder, holds}
 use Rattle.lives.specs.Moments.{Leads, LetGo}
@@ -44,6 +45,7 @@ use Rattle.lives.proofs.Young.{young-after, after-young}
 use Rattle.lives.proofs.Hearing.{hears-late, kept-hears, kept-fares}
 use Rattle.lives.proofs.Faring.{unkept-fares, unkept-closed}
 use Rattle.lives.proofs.InCalls.{expired-in, lost-in, torn-in, left-in}
+use Rattle.lives.proofs.Lasting.{sweeping-text, stays-in, ends-in, torn-text, else-text}
 use Rattle.lives.proofs.Chains.{leads-agree}
 use Rattle.lives.proofs.Audits.{live-leads, after-leads}
 use Rattle.lives.proofs.Answers.{held-agrees}
@@ -120,7 +122,19 @@ module _ (frontends size : ℕ) (j : List ℕ) (cs : List Call) where
       pub none-expired-is-open : (i : ℕ) → isExpired (max (x .satbox .clock) clock) (sessionAt (satboxAfter c (x .satbox) (x .journal)) i) ≡ false
       none-expired-is-open = young-after sweeps (x .satbox) (x .journal) done (after-good h .whole)
 
-    -- in a TEARDOWN that is answered 200, after the sweep, so is the session that it names (`placeNamedBy`)
+    -- AND NOTHING ELSE CLOSES: a sweep at any clock leaves whoever has not expired, and whose stream's owner has not, where it was, as it was, and its
+    -- stream too (`Stays`)
+    pub unexpired-stays : (clock i : ℕ) → isOpen (sessionAt (x .satbox) i) ≡ true → isExpired (max (x .satbox .clock) clock) (sessionAt (x .satbox) i) ≡ false
+        → ((m : ℕ) → owns (sessionAt (x .satbox) i .stream) (sessionAt (x .satbox) m) ≡ true → isExpired (max (x .satbox .clock) clock) (sessionAt (x .satbox) m) ≡ false)
+        → Stays (x .satbox) i (sweeping clock (x .satbox) .satbox)
+    unexpired-stays clock = stays-in clock (x .satbox) (after-good h .whole)
+
+    -- and its records, sequence numbers aside, are those of `sweepClosings`, in that order: cause 2 of each that has expired, unless its owner has and is
+    -- visited before it, and 3 of every other whose owner has
+    pub sweep-causes : (clock : ℕ) → map unnumbered (sweeping clock (x .satbox) .records) ≡ sweepClosings (atClock clock (x .satbox))
+    sweep-causes clock = sweeping-text clock (x .satbox) (after-good h .whole)
+
+    -- In a TEARDOWN that is answered 200, after the sweep, the session that it names is closed too (`placeNamedBy`)
     module _ (s : List ℕ) (clock address draw : ℕ) (b : List ℕ) (l : Lent) (done : outcomeOf (request s clock address draw b l) (x .satbox) (x .journal) ≡ Done)
         (tears : methodOf s ≡ Teardown) (passed : isPassed (requested s clock address draw (x .satbox) .case) ≡ true) where
       abbrev v : SatBox
@@ -141,6 +155,22 @@ module _ (frontends size : ℕ) (j : List ℕ) (cs : List Call) where
           → Closed v i (satboxAfter c (x .satbox) (x .journal)) (recordsIn c (x .satbox) (x .journal))
       unfolding replied
       left-by-owner-is-closed = left-in s clock address draw b l (x .satbox) (x .journal) done (after-good h .whole) tears passed
+
+      -- and its records are those of its sweep, and then cause 1 of the one that it names and 3 of each that this takes along (`teardownClosings`)
+      pub teardown-causes : map unnumbered (recordsIn c (x .satbox) (x .journal))
+          ≡ sweepClosings (atClock clock (x .satbox)) ++ teardownClosings v place
+      teardown-causes = torn-text s clock address draw b l (x .satbox) (x .journal) (after-good h .whole) done tears passed
+
+    -- Of the sessions open before a call, whichever it is, refused or not, one that is not at its place with its number after it had expired, had lost
+    -- its owner or was torn down (`Ends`),
+    pub nothing-else-closes : (c : Call) (i : ℕ) → isOpen (sessionAt (x .satbox) i) ≡ true
+        → (sessionAt (satboxAfter c (x .satbox) (x .journal)) i .number ≡ sessionAt (x .satbox) i .number → ⊥) → Ends (x .satbox) i c
+    nothing-else-closes c i some = ends-in (x .satbox) (x .journal) (after-good h .whole) i some c
+
+    -- and where it is no TEARDOWN answered 200 (`TearsDown`), what it writes after the records of its sweep is no closing
+    pub no-other-closing-is-written : (clock : ℕ) (c : Call) → Sweeps clock c → outcomeOf c (x .satbox) (x .journal) ≡ Done → (TearsDown (x .satbox) c → ⊥)
+        → (rest : List Record) × (recordsIn c (x .satbox) (x .journal) ≡ sweeping clock (x .satbox) .records ++ rest) × (any saysClosed rest ≡ false)
+    no-other-closing-is-written clock c sweeps = else-text sweeps (x .satbox) (x .journal) (after-good h .whole)
 
     -- WHO IS KEPT: a session that an OPTIONS answered 200 names, in the box after expired sessions are closed; after this call and any others
     module _ (s : List ℕ) (clock address draw : ℕ) (b : List ℕ) (l : Lent) (ds : List Call) where

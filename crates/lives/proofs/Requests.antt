@@ -9,6 +9,7 @@ use lib.Dec.{eqb}
 use Rattle.scan.proofs.Bools.{cond-keeps}
 use Rattle.aim.specs.declared.Method.{Method}
 use Rattle.aim.specs.declared.Method.the-variants.{Options, Setup, Play, Teardown, Other}
+use Rattle.reader.specs.Request.{methodOf}
 use Rattle.stream.specs.declared.Stream.{Stream}
 use Rattle.stream.specs.declared.Change.{Change}
 use Rattle.stream.proofs.Keeping.{merge-frontend}
@@ -47,15 +48,15 @@ unfolding restreamed
 retuned-same as-it-was = (refl, refl)
 retuned-same (merged id m e) = (refl, refl)
 
--- what is to be shown
-pub record Steps (t : SatBox) (draw : ℕ) (R : Did → Type 0) : Type 0 where
+-- what is to be shown of a request with a method
+pub record Steps (t : SatBox) (method : Method) (draw : ℕ) (R : Did → Type 0) : Type 0 where
   pub still : R (nothing t)
   pub changed : (place : ℕ) (s : Session) → Kin (t .clock) s (sessionAt t place) → (u : SatBox) → Retuned t u → R (nothing (replaced place s u))
   pub joined : (id : ℕ) (client : Client) → client .draw ≡ draw → R (joining id client t)
   pub opened : (m : Stream) (client : Client) → client .draw ≡ draw → R (opening m client t)
-  pub closed : (place : ℕ) → Closable t place → R (closing 1 place t)
+  pub closed : method ≡ Teardown → (place : ℕ) → Closable t place → R (closing 1 place t)
 
-module _ (t : SatBox) (a : Asked) (l : Lists) (client : Client) (w : Whole t) (R : Did → Type 0) (k : Steps t (client .draw) R) (p : Untested (sightOf t a)) where
+module _ (t : SatBox) (a : Asked) (l : Lists) (client : Client) (w : Whole t) (R : Did → Type 0) (k : Steps t (a .method) (client .draw) R) (p : Untested (sightOf t a)) where
   keeping-holds : R (keeping t (sightOf t a) .did)
   unfolding sightOf
   keeping-holds =
@@ -92,11 +93,11 @@ module _ (t : SatBox) (a : Asked) (l : Lists) (client : Client) (w : Whole t) (R
       cond-keeps (λ (x : Serving). R (x .did)) (isNamed (sightOf t a)) (retuning t a l) (seating t a l client) (λ named. retuning-holds named (rw e))
       (λ n. cond-keeps (λ (x : Serving). R (x .did)) (eqb (a .stream) 0) _ _ (λ z. k .opened (merging t a l .stream) client refl) (λ z. k .joined (a .stream) client refl))
   grant-holds Play e = retuning-holds (named-needed (sightOf t a) p (rw e)) (rw e)
-  grant-holds Teardown e = k .closed (sightOf t a .place) (tears-closable t a w p e)
+  grant-holds Teardown e = k .closed e (sightOf t a .place) (tears-closable t a w p e)
   grant-holds Other e = k .still
 
 -- EVERY REQUEST, on a table that was swept
-pub answered-holds : (s : List ℕ) (address draw : ℕ) (t : SatBox) → Whole t → (R : Did → Type 0) → Steps t draw R → R (answered s address draw t .did)
+pub answered-holds : (s : List ℕ) (address draw : ℕ) (t : SatBox) → Whole t → (R : Did → Type 0) → Steps t (methodOf s) draw R → R (answered s address draw t .did)
 answered-holds s address draw t w R k =
     let a = askedOf (t .frontends) s in
     let client = clientOf address draw a in

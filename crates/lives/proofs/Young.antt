@@ -86,7 +86,7 @@ answered-young s address draw t w y =
       changed = λ place s k u r. changed-young place s y k r;
       joined = λ id client e. joining-young id client t y;
       opened = λ m client e. opening-young m client t y;
-      closed = λ place c. closing-young place t y c;
+      closed = λ tears place c. closing-young place t y c;
     })
 
 -- THE CALLS
