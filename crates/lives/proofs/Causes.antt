@@ -1,7 +1,7 @@
 -- What a closing and a sweep leave, and which records they write, session by session: whom a session takes along is closed, everybody else is as
 -- before; and the records have the causes and the order that the visits give. Assumes nothing.
 use mathlib.Core.Path.{_≡_, refl, sym, _∙_, ap, subst}
-use mathlib.Core.Bool.{Bool, true, false, not, cond, _&&_, and-false}
+use mathlib.Core.Bool.{Bool, true, false, not, cond, _&&_, and-false, and-true}
 use mathlib.Core.List.{List, [], _∷_, map, map-append, append-nil}
 use Prim.Native.Nat.{ℕ, zero, suc, _≤_, _<_}
 use native.Mathlib.Decide.{decLt}
@@ -11,7 +11,7 @@ use lib.ListN.{length, getD, set, List·getD-eq-default}
 use lib.Seq.{getD-set-other}
 use borrow.Author.Tests.{eq-eqb, ne-eqb, eqb-true, lt-ltb, le-ltb}
 use Rattle.scan.specs.Lists.{first}
-use Rattle.scan.proofs.Bools.{never, and-both, and-true, both, or-second, by-cases, Case, is, isnt, case, Same, same, other, sames, cond-keeps}
+use Rattle.scan.proofs.Bools.{never, and-both, both, or-second, or-right, by-cases, Case, is, isnt, case, Same, same, other, sames, cond-keeps}
 use Rattle.journal.specs.declared.Record.{Record}
 use Rattle.stream.specs.Streams.{noStream, pastStream}
 use Rattle.table.specs.Counts.{count}
@@ -27,7 +27,8 @@ use Rattle.closings.proofs.Closings.{closable}
 use Rattle.closings.proofs.Keeping.{Whole, whole-roomy, sweepAt-whole, owner-sessions, owner-streams}
 use Rattle.closings.proofs.Runs.{upto-keeps}
 use Rattle.lives.specs.Causes.{takes, visitOf, closingOf, unnumbered, inOrder, closingsAt, sweepClosings}
-use Rattle.lives.proofs.Fates.{stream-other, off-stream, getD-clear, upto-fates}
+use Rattle.promises.proofs.Methods.{stream-other, getD-clear}
+use Rattle.lives.proofs.Fates.{off-stream, upto-fates}
 
 -- OF LISTS: what passes a test that the default fails is in the list, and the first that passes is not past it
 module _ {A : Type 0} (p : A → Bool) (l : List A) (d : A) (no : p d ≡ false) where
@@ -67,6 +68,9 @@ order-none f (suc n) h = rw (order-none f n h, h n)
 -- OF TWO SESSIONS
 pub takes-self : (s : Session) → takes s s ≡ true
 takes-self s = rw (eq-eqb (s .number) (s .number) refl)
+
+pub takes-on : (r s : Session) → owns (r .stream) r ≡ true → isOn (r .stream) s ≡ true → takes r s ≡ true
+takes-on r s own on = or-right (has (s .number) r) (both own on)
 
 module _ (t : SatBox) (w : Whole t) where
   -- open sessions have different numbers
@@ -438,6 +442,24 @@ module _ (t : SatBox) (w : Whole t) where
   pub swept-text : map unnumbered (swept t .records) ≡ sweepClosings t
   unfolding swept
   swept-text = visited 32 (omega arith) .text
+
+  -- WHO IS GONE: whom one that has expired takes along
+  pub swept-gone : (i m : ℕ) → aged m ≡ true → takes (sessionAt t m) (sessionAt t i) ≡ true → sessionAt (swept t .satbox) i ≡ noSession
+  unfolding swept
+  swept-gone i m y z =
+      let l = within (isExpired (t .clock)) (t .sessions) noSession refl m y in
+      visited 32 (omega arith) .seats i ∙ rw (lt-ltb (visit i) 32 (omega (arith, visit-least i m y z, l, w .places)))
+
+  -- so that nothing that has expired is open
+  pub none-expired : (i : ℕ) → isExpired (t .clock) (sessionAt (swept t .satbox) i) ≡ false
+  unfolding swept
+  none-expired i = by (case (aged i))
+    where
+      by : Case (aged i) → isExpired (t .clock) (sessionAt (swept t .satbox) i) ≡ false
+      by (is y) = subst (λ (x : Session). isExpired (t .clock) x ≡ false) (sym (swept-gone i i y (takes-self (sessionAt t i)))) refl
+      by (isnt n) =
+          subst (λ (x : Session). isExpired (t .clock) x ≡ false) (sym (visited 32 (omega arith) .seats i))
+          (cond-keeps (λ (x : Session). isExpired (t .clock) x ≡ false) (ltb (visit i) 32) noSession (sessionAt t i) (λ e. refl) (λ e. n))
 
   -- WHO STAYS
   module _ (i : ℕ) (some : isOpen (sessionAt t i) ≡ true) (young : aged i ≡ false) (kept : (m : ℕ) → owns (sessionAt t i .stream) (sessionAt t m) ≡ true → aged m ≡ false) where

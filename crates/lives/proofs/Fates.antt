@@ -2,13 +2,12 @@
 use mathlib.Core.Path.{_≡_, refl, sym, _∙_, ap, subst}
 use mathlib.Core.Bool.{Bool, true, false}
 use mathlib.Core.List.{List, [], _∷_, _++_}
-use Prim.Native.Nat.{ℕ, zero, suc, _≤_, _<_}
+use Prim.Native.Nat.{ℕ, _≤_, _<_}
 use native.Mathlib.Omega.{arith}
 use lib.Dec.{eqb}
-use lib.ListN.{set}
 use lib.Seq.{getD-set-other}
 use borrow.Author.Tests.{eq-eqb, ne-eqb}
-use Rattle.scan.proofs.Bools.{never, or-right, Case, is, isnt, case, Same, same, other, sames, cond-keeps, by-test}
+use Rattle.scan.proofs.Bools.{never, or-right, Case, is, isnt, case, Same, same, other, sames, cond-keeps}
 use Rattle.journal.specs.declared.Record.{Record}
 use Rattle.stream.specs.Streams.{noStream}
 use Rattle.stream.specs.declared.Stream.{Stream}
@@ -17,13 +16,13 @@ use Rattle.table.specs.Table.{noSession, sessionAt, streamOf, isOn}
 use Rattle.table.specs.declared.Session.{Session}
 use Rattle.table.specs.declared.SatBox.{SatBox}
 use Rattle.table.proofs.Counts.{getD-set-here, count-zero-at, count-cleared-none}
-use Rattle.closings.specs.Did.{Did, nothing, then, when, upto, restreamed, reseated, noting}
+use Rattle.closings.specs.Did.{Did, nothing, then, upto, restreamed, reseated, noting}
 use Rattle.closings.specs.Does.{Roomy, Closable}
 use Rattle.closings.specs.Closing.{closeOne, closeOn, cascade, free, closing, isExpired, sweepAt}
 use Rattle.closings.proofs.Closings.{closable, closeOne-fine, closeOn-fine}
 use Rattle.closings.proofs.Keeping.{Whole, whole-roomy, sweepAt-whole, cascade-sessions}
-use Rattle.closings.proofs.Runs.{upto-keeps, upto-holds}
-use Rattle.promises.proofs.Methods.{stream-other, getD-clear}
+use Rattle.closings.proofs.Runs.{upto-holds}
+use Rattle.promises.proofs.Methods.{stream-other}
 use Rattle.lives.specs.Closed.{isClosing}
 
 -- the session s of t in the table after d, where `after` stands in its place
@@ -139,15 +138,6 @@ module _ (cause i : ℕ) (t : SatBox) (c : Closable t i) where
       cond-keeps (Fates t) (eqb (sessionAt t i .owner) 0) (closeOne cause i t) _ (λ e. closeOne-fates cause i t c)
       (λ e. fates-freed t (then (closeOne cause i t) (cascade id)) id (gone id) (started-fates id))
 
-  -- and its place is free
-  pub closed-here : sessionAt (closing cause i t .satbox) i ≡ noSession
-  unfolding closing closeOne noting reseated restreamed
-  closed-here =
-      let id = sessionAt t i .stream in
-      let here = getD-set-here (λ x. x ≡ noSession) (t .sessions) i noSession noSession refl refl in
-      cond-keeps (λ (d : Did). sessionAt (d .satbox) i ≡ noSession) (eqb (sessionAt t i .owner) 0) (closeOne cause i t) _ (λ e. here)
-      (λ e. rw (cascade-sessions id (reseated i noSession t) (closeOne-fine t i c cause .roomy .places), getD-clear id (set (t .sessions) i noSession) i, here))
-
 -- A SWEEP
 sweepAt-fates : (i : ℕ) (t : SatBox) → i < 32 → Whole t → Fates t (sweepAt i t)
 unfolding sweepAt
@@ -158,32 +148,7 @@ sweepAt-fates i t h w =
 pub upto-fates : (t : SatBox) → Whole t → (n : ℕ) → n ≤ 32 → Fates t (upto sweepAt n t)
 upto-fates t w n h = upto-holds Whole Fates fates-nothing fates-then sweepAt 32 sweepAt-whole sweepAt-fates t w n h
 
--- nothing that was visited has expired
-abbrev isAged : ℕ → SatBox → ℕ → Bool
-isAged clock t k = isExpired clock (sessionAt t k)
-
+-- what has not expired does not come to it
 pub aged-after : (t : SatBox) (d : Did) (s after : Session) → isExpired (t .clock) s ≡ false → Fate t d s after → isExpired (t .clock) after ≡ false
 aged-after t d s after y (stays e k) = subst (λ (x : Session). isExpired (t .clock) x ≡ false) (sym e) y
 aged-after t d s after y (leaves e some n) = subst (λ (x : Session). isExpired (t .clock) x ≡ false) (sym e) refl
-
-aged-here : (i : ℕ) (t : SatBox) → i < 32 → Whole t → isAged (t .clock) (sweepAt i t .satbox) i ≡ false
-unfolding sweepAt
-aged-here i t h w =
-    by-test (λ b. isAged (t .clock) (when b (closing 2 i t) t .satbox) i ≡ false) (isAged (t .clock) t i)
-    (λ e. subst (λ (x : Session). isExpired (t .clock) x ≡ false) (sym (closed-here 2 i t (closable t i _ h (whole-roomy t w) e))) refl)
-    (λ e. e)
-
-aged-step : (n : ℕ) (t : SatBox) → n < 32 → Whole t → (k : ℕ) → (k < n → isAged (t .clock) t k ≡ false) → k ≤ n → Same k n → isAged (t .clock) (sweepAt n t .satbox) k ≡ false
-aged-step n t h w k y l (same e) = subst (λ i. isAged (t .clock) (sweepAt n t .satbox) i ≡ false) (sym e) (aged-here n t h w)
-aged-step n t h w k y l (other e) =
-    aged-after t (sweepAt n t) (sessionAt t k) (sessionAt (sweepAt n t .satbox) k) (y (omega arith)) (sweepAt-fates n t h w .each k)
-
-pub aged-upto : (t : SatBox) → Whole t → (n : ℕ) → n ≤ 32 → (k : ℕ) → k < n → isAged (t .clock) (upto sweepAt n t .satbox) k ≡ false
-unfolding upto
-aged-upto t w zero h k l = absurd (omega arith)
-aged-upto t w (suc n) h k l =
-    let u = upto sweepAt n t .satbox in
-    let c : u .clock ≡ t .clock = upto-fates t w n (omega arith) .clock in
-    subst (λ clock. isAged clock (sweepAt n u .satbox) k ≡ false) c
-    (aged-step n u (omega arith) (upto-keeps sweepAt Whole 32 sweepAt-whole t w n (omega arith)) k
-    (λ m. subst (λ clock. isAged clock u k ≡ false) (sym c) (aged-upto t w n (omega arith) k m)) (omega arith) (sames k n))

@@ -166,7 +166,7 @@ module _ (n c : ℕ) (some : n ≡ 0 → ⊥) where
           changed = changed-ages;
           joined = λ id client e. joining-ages id client;
           opened = λ m client e. opening-ages m client;
-          closed = λ place k. closing-ages 1 place t w (λ z. absurd (omega arith)) k;
+          closed = λ tears place k. closing-ages 1 place t w (λ z. absurd (omega arith)) k;
         })
 
   -- THE CALLS, and any run of them

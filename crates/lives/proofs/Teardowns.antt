@@ -1,14 +1,13 @@
 -- A TEARDOWN that is answered 200 closes the session that it names and, where that owns its stream, each other on it. Assumes nothing.
-use mathlib.Core.Path.{_≡_, sym, _∙_, ap, subst}
+use mathlib.Core.Path.{_≡_, refl, sym, _∙_, ap, subst}
 use mathlib.Core.Bool.{true}
 use mathlib.Core.List.{List}
 use Prim.Native.Nat.{ℕ}
-use lib.ListN.{getD}
+use borrow.Author.Tests.{eq-eqb, ne-eqb}
 use Rattle.scan.proofs.Bools.{never, and-both}
 use Rattle.aim.specs.declared.Method.the-variants.{Teardown}
 use Rattle.reader.specs.Request.{methodOf}
-use Rattle.table.specs.Table.{noSession, isOpen, sessionAt, isOn}
-use Rattle.table.specs.declared.Session.{Session}
+use Rattle.table.specs.Table.{isOpen, sessionAt, isOn}
 use Rattle.table.specs.declared.SatBox.{SatBox}
 use Rattle.table.proofs.Changes.{opened}
 use Rattle.steps.specs.Asked.{Asked, Lists, askedOf, listsOf}
@@ -19,27 +18,15 @@ use Rattle.closings.specs.Does.{Closable}
 use Rattle.closings.specs.Closing.{closing}
 use Rattle.serving.specs.Serving.{Serving, served, clientOf, answered}
 use Rattle.serving.specs.declared.opening.Client.{Client}
-use Rattle.closings.proofs.Keeping.{Whole, owner-sessions}
+use Rattle.closings.proofs.Keeping.{Whole}
 use Rattle.promises.proofs.Passing.{served-by, tears-closable}
 use Rattle.promises.proofs.Requests.{answered-by}
 use Rattle.promises.proofs.Records.{closed-is}
-use Rattle.promises.proofs.Methods.{getD-clear}
+use Rattle.lives.specs.Causes.{takes}
 use Rattle.lives.specs.Closed.{Closed, placeNamedBy}
-use Rattle.lives.proofs.Fates.{closing-fates, closed-here}
-use Rattle.lives.proofs.Sweeps.{left-closed}
-
-module _ (cause place : ℕ) (t : SatBox) (c : Closable t place) where
-  -- an open session whose place is free afterwards is closed
-  free-closed : (i : ℕ) → (sessionAt t i .number ≡ 0 → ⊥) → sessionAt (closing cause place t .satbox) i ≡ noSession → Closed t i (closing cause place t .satbox) (closing cause place t .records)
-  free-closed i some e =
-      let f = closing-fates cause place t c in
-      left-closed t (closing cause place t) f i (f .each i) (λ q. some (ap (λ (x : Session). x .number) (sym q ∙ e)))
-
-  -- whoever was on the stream of an owner that closes
-  freed-with : Whole t → (sessionAt t place .owner ≡ 0 → ⊥) → (i : ℕ) → isOn (sessionAt t place .stream) (sessionAt t i) ≡ true → sessionAt (closing cause place t .satbox) i ≡ noSession
-  freed-with w own i on =
-      let id = sessionAt t place .stream in
-      ap (λ (l : List Session). getD l i noSession) (owner-sessions cause place t c w own) ∙ (getD-clear id (t .sessions) i ∙ rw on)
+use Rattle.lives.proofs.Fates.{closing-fates}
+use Rattle.lives.proofs.Causes.{takes-self, takes-on, closing-took}
+use Rattle.lives.proofs.Sweeps.{freed-closed}
 
 -- what it does
 pub record Torn (t : SatBox) (place : ℕ) (d : Did) : Type 0 where
@@ -65,13 +52,28 @@ module _ (s : List ℕ) (address draw : ℕ) (t : SatBox) (w : Whole t) (tears :
   torn : Torn t (placeNamedBy s t) (answered s address draw t .did)
   torn = answered-torn s address draw t w tears passed
 
+  abbrev place : ℕ
+  place = placeNamedBy s t
+
+  -- whom it takes along
+  taken-closed : (i : ℕ) → isOpen (sessionAt t i) ≡ true → takes (sessionAt t place) (sessionAt t i) ≡ true
+      → Closed t i (answered s address draw t .did .satbox) (answered s address draw t .did .records)
+  taken-closed i some y =
+      let c = torn .closable in
+      subst (λ (d : Did). Closed t i (d .satbox) (d .records)) (sym (torn .is))
+      (freed-closed t (closing 1 place t) (closing-fates 1 place t c) i (opened (sessionAt t i) some) (closing-took 1 place t c w .seats i ∙ rw y))
+
+  named : isOpen (sessionAt t place) ≡ true
+  named = rw (ne-eqb (sessionAt t place .number) 0 (torn .closable .some))
+
   -- THE SESSION THAT IT NAMES
-  pub torn-closed : Closed t (placeNamedBy s t) (answered s address draw t .did .satbox) (answered s address draw t .did .records)
-  torn-closed = subst (λ (d : Did). Closed t (placeNamedBy s t) (d .satbox) (d .records)) (sym (torn .is))
-      (free-closed 1 (placeNamedBy s t) t (torn .closable) (placeNamedBy s t) (torn .closable .some) (closed-here 1 (placeNamedBy s t) t (torn .closable)))
+  pub torn-closed : Closed t place (answered s address draw t .did .satbox) (answered s address draw t .did .records)
+  torn-closed = taken-closed place named (takes-self (sessionAt t place))
 
   -- AND WHO WAS ON ITS STREAM, where it owned it
-  pub left-with-owner : (sessionAt t (placeNamedBy s t) .owner ≡ 0 → ⊥) → (i : ℕ) → isOn (sessionAt t (placeNamedBy s t) .stream) (sessionAt t i) ≡ true
+  pub left-with-owner : (sessionAt t place .owner ≡ 0 → ⊥) → (i : ℕ) → isOn (sessionAt t place .stream) (sessionAt t i) ≡ true
       → Closed t i (answered s address draw t .did .satbox) (answered s address draw t .did .records)
-  left-with-owner own i on = subst (λ (d : Did). Closed t i (d .satbox) (d .records)) (sym (torn .is))
-      (free-closed 1 (placeNamedBy s t) t (torn .closable) i (opened (sessionAt t i) (and-both (isOpen (sessionAt t i)) _ on .0)) (freed-with 1 (placeNamedBy s t) t (torn .closable) w own i on))
+  left-with-owner own i on =
+      let r = sessionAt t place in
+      taken-closed i (and-both (isOpen (sessionAt t i)) _ on .0)
+      (takes-on r (sessionAt t i) (rw (named, eq-eqb (r .stream) (r .stream) refl, ne-eqb (r .owner) 0 own)) on)
