@@ -53,8 +53,8 @@ record-noted f n clock k r e = noted-before f n clock r (audited f k) (sym (audi
 note-noted : {u : SatBox} {d : Did} → Notes u d → (f n clock : ℕ) (k : List Record) → audited f (k ++ d .records) ≡ letGo n clock
     → (audited f k ≡ letGo n clock) ⊎ ((audited f k ≡ heldBy n) × (d .satbox .clock ≡ clock))
 unfolding closeOne noting reseated
-note-noted {u} (opens s place p q o) f n clock k e = record-noted f n clock k (recordOf 1 0 s u) e
-note-noted {u} (joins s place p q o) f n clock k e = record-noted f n clock k (recordOf 2 0 s u) e
+note-noted {u} (opens s place b p q o) f n clock k e = record-noted f n clock k (recordOf 1 0 s u) e
+note-noted {u} (joins s place b p q o) f n clock k e = record-noted f n clock k (recordOf 2 0 s u) e
 note-noted {u} (closes cause place p) f n clock k e = record-noted f n clock k (recordOf 3 cause (sessionAt u place) u) e
 
 module _ (f n clock : ℕ) (z : f ≡ 0 → ⊥) {h : List Record} {t : SatBox} (new : audited f h ≡ letGo n clock → ⊥) where

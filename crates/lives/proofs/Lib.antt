@@ -23,5 +23,6 @@ pub mod Watching
 pub mod Audits
 pub mod Answers
 pub mod LettingGo
+pub mod OpenCounts
 pub mod ReadingBack
 pub mod Lives

@@ -26,7 +26,7 @@ use Rattle.table.specs.declared.Outcome.the-variants.{Done}
 use Rattle.steps.specs.Asked.{askedOf, listsOf}
 use Rattle.steps.specs.Cases.{isPassed}
 use Rattle.steps.specs.declared.cases.Case.the-variants.{Passed, Full}
-use Rattle.closings.specs.Did.{bytesOf}
+use Rattle.closings.specs.Did.{bytesOf, Did}
 use Rattle.closings.specs.Closing.{isExpired, atClock, sweeping}
 use Rattle.satbox.specs.Requests.{requested, replied}
 use Rattle.closings.proofs.DoesLaws.{bytes-append}
@@ -37,7 +37,7 @@ use Rattle.lives.specs.Closed.{Closed, isClosingOf, isTimeOut, Fares, pl
 use Rattle.lives.specs.Causes.{saysClosed, unnumbered, sweepClosings, teardownClosings}
 use Rattle.lives.specs.Openings.{PassesElse}
 use Rattle.lives.specs.Audit.{letGo, audited, isTaken, isHolder, holds}
-use Rattle.lives.specs.Moments.{Leads, LetGo}
+use Rattle.lives.specs.Moments.{Quiet, Notes, Leads, LetGo, openings, closings}
 use Rattle.lives.proofs.Journals.{counts-at, counts-next}
 use Rattle.lives.proofs.Running.{live-good, after-good, swept-fed, swept-sized}
 use Rattle.lives.proofs.Refusals.{call-gated}
@@ -50,6 +50,7 @@ use Rattle.lives.proofs.Chains.{leads-agree}
 use Rattle.lives.proofs.Audits.{live-leads, after-leads}
 use Rattle.lives.proofs.Answers.{held-agrees}
 use Rattle.lives.proofs.LettingGo.{never-let-go, let-go}
+use Rattle.lives.proofs.OpenCounts.{note-moves-one, quiet-moves-none, leads-count}
 use Rattle.lives.proofs.ReadingBack.{read-back, after-fit}
 use Rattle.lives.proofs.Rooms.{refused-exactly, passed-exactly}
 
@@ -260,6 +261,17 @@ module _ (frontends size : ℕ) (j : List ℕ) (cs : List Call) where
     -- each step the history so far and the table agree (`Agree`)
     pub agree-at-every-record : Leads [] (fresh frontends size) (x .history) (x .satbox)
     agree-at-every-record = after-leads h
+
+    -- no record is of nobody: the step that writes one opens one session more or closes one, no other step does, and so as many are open as the
+    -- history has openings less closings (`openings`, `closings`)
+    pub each-record-is-of-one : {t : SatBox} {d : Did} → Notes t d → opens (d .satbox) + closings (d .records) ≡ opens t + openings (d .records)
+    each-record-is-of-one = note-moves-one
+
+    pub no-other-step-opens-or-closes : {t u : SatBox} → Quiet t u → opens u ≡ opens t
+    no-other-step-opens-or-closes = quiet-moves-none
+
+    pub open-are-the-opened-and-not-closed : opens (x .satbox) + closings (x .history) ≡ openings (x .history)
+    open-are-the-opened-and-not-closed = omega (arith, leads-count (after-leads h))
 
     -- and so is each call of it, from the box before it to the box after it
     pub agree-within-a-call : (c : Call) → isCall size c ≡ true → Leads (x .history) (x .satbox) (live c x .history) (live c x .satbox)

@@ -31,7 +31,7 @@ unfolding joining seated
 joining-watched id client t short w =
     let s = guest 0 id client t in
     cond-keeps (Watched t) (canJoin id t) (seated 2 s t) (nothing t)
-    (λ e h g. noted (begun g) (joins s (lowestPlace (t .sessions)) (place-free t (and-both (hasPlace t) _ e .0) .1) (drawn-nonzero (t .sessions) (client .draw) (w .places) short) refl) (agree-joined h id client t e g)) (λ e. watched-nothing t)
+    (λ e h g. noted (begun g) (joins s (lowestPlace (t .sessions)) (omega (arith, place-free t (and-both (hasPlace t) _ e .0) .0)) (place-free t (and-both (hasPlace t) _ e .0) .1) (drawn-nonzero (t .sessions) (client .draw) (w .places) short) refl) (agree-joined h id client t e g)) (λ e. watched-nothing t)
 
 opening-watched : (m : Stream) (client : Client) (t : SatBox) → client .draw < 4294967296 → Whole t → Watched t (opening m client t)
 unfolding opening seated restreamed
@@ -39,7 +39,7 @@ opening-watched m client t short w =
     let id = lowestId (t .streams) in
     let s = guest 1 id client t in
     cond-keeps (Watched t) (canOpen (m .frontend) t) (seated 1 s (restreamed id m t)) (nothing t)
-    (λ e h g. noted (quiet (begun g) (restream id m (nobody h m client t short e w g)) (agree-new h m client t short e w g)) (opens s (lowestPlace (t .sessions)) (place-free t (and-both (hasPlace t) _ e .0) .1) (drawn-nonzero (t .sessions) (client .draw) (w .places) short) (λ q. omega arith)) (agree-opened h m client t short e w g))
+    (λ e h g. noted (quiet (begun g) (restream id m (nobody h m client t short e w g)) (agree-new h m client t short e w g)) (opens s (lowestPlace (t .sessions)) (omega (arith, place-free t (and-both (hasPlace t) _ e .0) .0)) (place-free t (and-both (hasPlace t) _ e .0) .1) (drawn-nonzero (t .sessions) (client .draw) (w .places) short) (λ q. omega arith)) (agree-opened h m client t short e w g))
     (λ e. watched-nothing t)
 
 -- A SESSION CHANGED in its place, with a query merged or not

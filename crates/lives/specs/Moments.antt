@@ -1,9 +1,11 @@
 -- A box's life table by table: each change of the box is one of those below, each record is written by one of them, and after each the
 -- history so far and the table agree (`Agree`). Assumes nothing.
-use Prim.Native.Nat.{ℕ}
+use Prim.Native.Nat.{ℕ, _<_}
 use mathlib.Core.Path.{_≡_}
-use mathlib.Core.Bool.{true, false}
+use mathlib.Core.Bool.{true, false, not}
 use mathlib.Core.List.{List, _++_}
+use lib.Dec.{eqb}
+use lib.ListN.{length}
 use Rattle.journal.specs.declared.Record.{Record}
 use Rattle.stream.specs.declared.Stream.{Stream}
 use Rattle.table.specs.Counts.{count}
@@ -26,11 +28,18 @@ pub data Quiet (t : SatBox) : SatBox → Type 0 where
       → Quiet t (replaced place s t)
   empty : Quiet t (emptied t)
 
--- THE CHANGES THAT WRITE A RECORD: a session with a number comes to a free place, as an owner or as a joiner; and an open session closes
+-- THE CHANGES THAT WRITE A RECORD: a session with a number comes to a free place of the table, as an owner or as a joiner; and an open session closes
 pub data Notes (t : SatBox) : Did → Type 0 where
-  opens : (s : Session) (place : ℕ) → sessionAt t place .number ≡ 0 → (s .number ≡ 0 → ⊥) → (s .owner ≡ 0 → ⊥) → Notes t (noting 1 0 s place s t)
-  joins : (s : Session) (place : ℕ) → sessionAt t place .number ≡ 0 → (s .number ≡ 0 → ⊥) → s .owner ≡ 0 → Notes t (noting 2 0 s place s t)
+  opens : (s : Session) (place : ℕ) → place < length (t .sessions) → sessionAt t place .number ≡ 0 → (s .number ≡ 0 → ⊥) → (s .owner ≡ 0 → ⊥) → Notes t (noting 1 0 s place s t)
+  joins : (s : Session) (place : ℕ) → place < length (t .sessions) → sessionAt t place .number ≡ 0 → (s .number ≡ 0 → ⊥) → s .owner ≡ 0 → Notes t (noting 2 0 s place s t)
   closes : (cause place : ℕ) → (sessionAt t place .number ≡ 0 → ⊥) → Notes t (closeOne cause place t)
+
+-- how many records of a history are of openings, "1 opened as owner, 2 joined", and how many of closings, "3 closed"
+abbrev pub openings : List Record → ℕ
+openings rs = count (λ r. not (eqb (r .kind) 3)) rs
+
+abbrev pub closings : List Record → ℕ
+closings rs = count (λ r. eqb (r .kind) 3) rs
 
 -- from the history h and the table t to the history k and the table u, record by record
 pub data Leads (h : List Record) (t : SatBox) : List Record → SatBox → Type 0 where
