@@ -26,3 +26,4 @@ pub mod LettingGo
 pub mod OpenCounts
 pub mod ReadingBack
 pub mod Lives
+pub mod FullBox

@@ -57,19 +57,19 @@ use Rattle.promises.proofs.Asks.{example, exampleAnswer, setupAt, setup
 use Rattle.promises.proofs.EdgeLaws.{drawn-first, RefusedAs, ReadsAs, refused-alike, served-alike}
 
 -- Named on a proof's `unfolding` line, these let meanings be worked out there: of reading, of lists of PIDs, of serving; and all of them
-reading : ℕ
+unfoldable pub reading : ℕ
 unfolding requestRefusal headRefusal cseqOf cseqFrom isLaidOut requestLine headerLines methodIn uriRefusal isUri streamIn isQuery areWithin attributeIn attributeOf valueOf frequency arePids placeAmong readNumber readHex8 codesIn codeOf textOf sessionOf sessionIn transportOf
 reading = 0
 
-listing : ℕ
+unfoldable pub listing : ℕ
 unfolding listed numbersIn readNumber
 listing = 0
 
-serving : ℕ
+unfoldable pub serving : ℕ
 unfolding requested answered served caseOf changeCase merging replaced joining opening seating closeOne closeOn cascade closing sweepAt swept atClock upto restreamed reseated noting tableCase lacksSession isDead isOutOfState isAnothers lacksPort sightOf drawn lowestFrontend mergeOf changed chosen goTogether merged
 serving = 0
 
-meanings : ℕ
+unfoldable pub meanings : ℕ
 unfolding reading listing serving answerOf replyText reasonOf decimal hex8 dotted width numeral encoded repliedInto repliedJournal written wellFormed isSeated isEmpty isSound areZero areNone areInRange isInRange isChoice
 meanings = 0
 
@@ -262,7 +262,7 @@ p8 = record { passed = refl; refused = always-refused freq-refused }
 
 -- P9: "with C = 1,024, opening and closing one session without collecting: 32 openings pass, the 33rd is 503, the 32nd still closes at
 -- 1,024 bytes held."
-abbrev rounds : ℕ → List (List ℕ)
+abbrev pub rounds : ℕ → List (List ℕ)
 rounds zero = []
 rounds (suc n) = example ∷ teardown ∷ rounds n
 
