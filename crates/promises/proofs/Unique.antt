@@ -210,9 +210,6 @@ table-lowest-place κs a x y v w p q = same (p .is) (q .is)
 pub table-lowest-id : Unique table.lowest_id.ended table.lowest_id.Reads.Post
 table-lowest-id κs a x y v w = same
 
-pub table-frontend-of : Unique table.frontend_of.ended table.frontend_of.Reads.Post
-table-frontend-of κs a x y v w = same
-
 pub table-owns : Unique table.owns.ended table.owns.Reads.Post
 table-owns κs a x y v w = same
 

@@ -2,7 +2,7 @@
 ghost use mathlib.Core.Path.{_≡_};
 ghost use Prim.Native.Nat.{_≤_};
 ghost use Rattle.scan.specs.Lists.{FirstOf};
-ghost use Rattle.table.specs.Table.{has, isFree, isDead, opens, streamOf, owns};
+ghost use Rattle.table.specs.Table.{has, isFree, isDead, opens, owns};
 ghost use Rattle.table.specs.Finding.{lowestId, isHeld, lowestFrontend, drawn};
 use crate::SatBox;
 use crate::Session;
@@ -49,20 +49,6 @@ pub fn lowest_id(t: SatBox) -> u8
     ensures { λ r. ⌜ r ≡ lowestId (t .streams) ⌝ }
 {
     (first_dead(t) + 1) as u8
-}
-
-// The frontend that a stream holds; 0 where there is no such stream, and where it is not live.
-pub fn frontend_of(t: SatBox, id: u32) -> u8
-    ensures { λ r. ⌜ r ≡ streamOf t id .frontend ⌝ }
-{
-    let k = id as usize;
-    if k == 0 {
-        return 0;
-    }
-    if SatBox::STREAMS < k {
-        return 0;
-    }
-    t.streams[k - 1].frontend
 }
 
 // Whether an open session owns the stream of an ID.

@@ -5,7 +5,6 @@ mod numbers;
 
 pub use finding::count_open;
 pub use finding::draw;
-pub use finding::frontend_of;
 pub use finding::is_held;
 pub use finding::lowest_frontend;
 pub use finding::lowest_id;
