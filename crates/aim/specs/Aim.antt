@@ -29,11 +29,12 @@ takesNoQuery Play = false
 takesNoQuery Teardown = true
 takesNoQuery Other = false
 
--- whether a URI names a stream
+-- whether what was read is the number n
 abbrev pub isNumber : ℕ → Read → Bool
 isNumber n (Number v) = eqb v n
 isNumber n Nothing = false
 
+-- whether a URI names a stream: 0 stands for none
 abbrev pub hasStream : List ℕ → Bool
 hasStream u = not (isNumber 0 (streamOf u))
 

@@ -2,7 +2,6 @@
 mod query;
 mod refusals;
 
-pub use query::Query;
 pub use refusals::Refusal;
 pub use refusals::is_passed;
 pub use refusals::status;
@@ -11,6 +10,7 @@ ghost use mathlib.Core.Path.{_≡_};
 ghost use mathlib.Core.Bool.{true, false};
 ghost use lib.ListN.{length};
 ghost use Rattle.aim.specs.Aim.{takesNoQuery, lacksStream, judged, isSpan, verdictOf, Reached, refusedAim, AimIs};
+use query::Query;
 use scan::Span;
 use target::Uri;
 
