@@ -35,6 +35,9 @@ aim-refused {x = x} n e q =
       query = λ y. absurd (no-pass y);
       codes = λ y. absurd (no-pass y);
       spans = λ y. absurd (no-pass y);
+      host-starts = λ y. absurd (no-pass y);
+      query-starts = λ y. absurd (no-pass y);
+      starts = λ y. absurd (no-pass y);
       refused = λ _. refl;
     })
 
@@ -85,6 +88,9 @@ module _ (frontends : ℕ) (method : Method) (u : List ℕ) {t : Uri} (r : Reach
         query = λ _. rw (asks frontends method u r) (holds-nothing u);
         codes = λ _ a. rw (asks frontends method u r, all-same {A = ℕ} 13 a 0);
         spans = λ _ a. rw (asks frontends method u r, all-same 13 a nowhere) (holds-nothing []);
+        host-starts = λ _. r .is .starts (r .sound);
+        query-starts = λ _. rw (asks frontends method u r);
+        starts = λ _ a. rw (asks frontends method u r, all-same 13 a nowhere);
         refused = λ x. never refl x;
       }
 
@@ -130,5 +136,8 @@ module _ (frontends : ℕ) (method : Method) (u : List ℕ) {t : Uri} (r : Reach
             query = λ _. rw (asks frontends method u r) (query-held u r);
             codes = λ _ a. rw (asks frontends method u r) (own .codes y a);
             spans = λ _ a. rw (asks frontends method u r) (own .spans y a);
+            host-starts = λ _. r .is .starts (r .sound);
+            query-starts = λ _. rw (asks frontends method u r) (r .is .place (r .sound));
+            starts = λ _ a. rw (asks frontends method u r) (own .starts y a);
             refused = λ z. never p z;
           }

@@ -19,7 +19,7 @@ use Rattle.digits.specs.Reading.{isValue}
 use Rattle.digits.specs.declared.Read.{Read}
 use Rattle.tuning.specs.Attributes.{attributeOf}
 use Rattle.tuning.specs.Values.{valueOf}
-use Rattle.aim.specs.Query.{isPart, equals, valueIn, attributeIn, isAmong, areParts, isQuery, isWithin, areWithin, codeFrom, codeAmong, codeOf, textAmong, textOf, PartIs, nowhere, brokenQuery, QueryIs}
+use Rattle.aim.specs.Query.{isPart, equals, valueIn, attributeIn, isAmong, areParts, isQuery, isWithin, areWithin, codeFrom, codeAmong, codeOf, textAmong, textOf, startAmong, startOf, PartIs, nowhere, brokenQuery, QueryIs}
 use Rattle.aim.specs.declared.query.Part.{Part}
 use Rattle.aim.specs.declared.query.Query.{Query}
 
@@ -63,10 +63,12 @@ pub record Asking (frontends : ℕ) (q : List ℕ) (p : ℕ) (codes : List ℕ) 
   pub values : w && all (isWithin frontends) (cutFrom 38 p q) ≡ areWithin frontends q
   pub coded : (a : ℕ) → codeOf frontends a q ≡ cond (isAmong a taken) (getD codes a 0) (codeAmong frontends a (cutFrom 38 p q))
   pub blank : (a : ℕ) → isAmong a taken ≡ false → getD codes a 0 ≡ 0
+  pub begins : (a : ℕ) → startOf a q ≡ cond (isAmong a taken) (getD spans a nowhere .start) (startAmong a p (cutFrom 38 p q))
+  pub unbegun : (a : ℕ) → isAmong a taken ≡ false → getD spans a nowhere .start ≡ 0
   pub held : (a : ℕ) → Spanned q (textOf a q) (textAmong a (cutFrom 38 p q)) (isAmong a taken) (getD spans a nowhere)
 
 pub asking-start : (frontends : ℕ) (q : List ℕ) → Asking frontends q 0 (replicate 13 0) (replicate 13 nowhere) true
-unfolding isQuery areWithin codeOf textOf
+unfolding isQuery areWithin codeOf textOf startOf
 asking-start frontends q =
     record {
       inside = omega arith;
@@ -78,6 +80,8 @@ asking-start frontends q =
       values = ap (all (isWithin frontends)) (sym (cut-start 38 q));
       coded = λ a. ap (codeAmong frontends a) (cut-start 38 q);
       blank = λ a _. all-same 13 a 0;
+      begins = λ a. ap (startAmong a 0) (cut-start 38 q);
+      unbegun = λ a _. ap (λ (s : Span). s .start) (all-same 13 a nowhere);
       held = λ a. rw (all-same 13 a nowhere) (record { there = λ y. never y refl; later = λ _. (ap (textAmong a) (cut-start 38 q), holds-nothing q) });
     }
 
@@ -89,6 +93,7 @@ query-broken n e =
       within = λ y. never y refl;
       codes = λ y. never y refl;
       spans = λ y. never y refl;
+      starts = λ y. never y refl;
       thirteen = (refl, refl);
       broken = λ _. refl;
     })
@@ -102,6 +107,7 @@ asking-end {frontends} {q} {p} {codes} {spans} {w} k h =
       within = λ _. sym (ap (λ l. w && all (isWithin frontends) l) none ∙ and-true w) ∙ k .values;
       codes = λ _ a. sym (k .coded a ∙ ap (λ l. cond (isAmong a (k .taken)) (getD codes a 0) (codeAmong frontends a l)) none ∙ coded a);
       spans = λ _ a. spanned a (k .held a);
+      starts = λ _ a. sym (k .begins a ∙ ap (λ l. cond (isAmong a (k .taken)) (getD spans a nowhere .start) (startAmong a p l)) none ∙ begun a);
       thirteen = (k .long, k .wide);
       broken = λ n. never refl n;
     }
@@ -112,6 +118,10 @@ asking-end {frontends} {q} {p} {codes} {spans} {w} k h =
 
     coded : (a : ℕ) → cond (isAmong a (k .taken)) (getD codes a 0) 0 ≡ getD codes a 0
     coded a = by-test (λ t. cond t (getD codes a 0) 0 ≡ getD codes a 0) (isAmong a (k .taken)) (λ _. refl) (λ n. sym (k .blank a n))
+
+    begun : (a : ℕ) → cond (isAmong a (k .taken)) (getD spans a nowhere .start) 0 ≡ getD spans a nowhere .start
+    begun a =
+        by-test (λ t. cond t (getD spans a nowhere .start) 0 ≡ getD spans a nowhere .start) (isAmong a (k .taken)) (λ _. refl) (λ n. sym (k .unbegun a n))
 
     spanned : (a : ℕ) → Spanned q (textOf a q) (textAmong a (cutFrom 38 p q)) (isAmong a (k .taken)) (getD spans a nowhere) → Holds q (textOf a q) (getD spans a nowhere .start) (getD spans a nowhere .end)
     spanned a s = by-test (λ t. isAmong a (k .taken) ≡ t → Holds q (textOf a q) (getD spans a nowhere .start) (getD spans a nowhere .end)) (isAmong a (k .taken)) (λ _ y. s .there y) (λ _ n. rw (s .later n .0 ∙ ap (textAmong a) (cut-end 38 p q h)) (s .later n .1)) refl
@@ -154,7 +164,7 @@ module _ {frontends : ℕ} {q : List ℕ} {p e : ℕ} {codes : List ℕ} {spans 
     here = record { start = p + r .value; end = e }
 
     pub asking-more : Asking frontends q (e + 1) (set codes b (codeFrom v)) (set spans b here) (w && isValue v)
-    unfolding textOf codeOf
+    unfolding textOf codeOf startOf
     asking-more =
         record {
           inside = omega (arith, f .within);
@@ -166,6 +176,8 @@ module _ {frontends : ℕ} {q : List ℕ} {p e : ℕ} {codes : List ℕ} {spans 
           values = values;
           coded = λ a. by-cases (ℕ-discrete a b) (λ z. coded-here a z) (λ z. coded-there a z);
           blank = λ a n. by-cases (ℕ-discrete a b) (λ z. never (rw (eq-eqb a b z)) n) (λ z. blank-there a z n);
+          begins = λ a. by-cases (ℕ-discrete a b) (λ z. begins-here a z) (λ z. begins-there a z);
+          unbegun = λ a n. by-cases (ℕ-discrete a b) (λ z. never (rw (eq-eqb a b z)) n) (λ z. unbegun-there a z n);
           held = λ a. by-cases (ℕ-discrete a b) (λ z. held-here a z) (λ z. held-there a z);
         }
       where
@@ -209,6 +221,24 @@ module _ {frontends : ℕ} {q : List ℕ} {p e : ℕ} {codes : List ℕ} {spans 
 
         blank-there : (a : ℕ) → (a ≡ b → ⊥) → isAmong a (b ∷ k .taken) ≡ false → getD (set codes b (codeFrom v)) a 0 ≡ 0
         blank-there a z n = getD-set-other codes b a (codeFrom v) 0 z ∙ k .blank a (sym (among a z) ∙ n)
+
+        start-turned : (a : ℕ) → startAmong a p (cutFrom 38 p q) ≡ cond (eqb b a) (p + r .value) (startAmong a (e + 1) (cutFrom 38 (e + 1) q))
+        start-turned a =
+            let m : length (part p e q) ≡ e - p = part-length p e q (omega (arith, f .within)) in
+            let n : p + length (part p e q) + 1 ≡ e + 1 = omega (arith, f .from) in
+            ap (startAmong a p) turned ∙ rw (← i .attribute, ← i .value, n)
+
+        begins-here : (a : ℕ) → a ≡ b → startOf a q ≡ cond (isAmong a (b ∷ k .taken)) (getD (set spans b here) a nowhere .start) (startAmong a (e + 1) (cutFrom 38 (e + 1) q))
+        begins-here a z = k .begins a ∙ rw (same-span a z, z, free) (start-turned b ∙ rw (eq-eqb b b refl))
+
+        begins-there : (a : ℕ) → (a ≡ b → ⊥) → startOf a q ≡ cond (isAmong a (b ∷ k .taken)) (getD (set spans b here) a nowhere .start) (startAmong a (e + 1) (cutFrom 38 (e + 1) q))
+        begins-there a z =
+            k .begins a
+            ∙ rw (among a z, other-span a z)
+            (ap (λ c. cond (isAmong a (k .taken)) (getD spans a nowhere .start) c) (start-turned a ∙ rw (ne-eqb b a (λ y. z (sym y)))))
+
+        unbegun-there : (a : ℕ) → (a ≡ b → ⊥) → isAmong a (b ∷ k .taken) ≡ false → getD (set spans b here) a nowhere .start ≡ 0
+        unbegun-there a z n = ap (λ (s : Span). s .start) (other-span a z) ∙ k .unbegun a (sym (among a z) ∙ n)
 
         text-turned : (a : ℕ) → textAmong a (cutFrom 38 p q) ≡ cond (eqb b a) (valueIn (part p e q)) (textAmong a (cutFrom 38 (e + 1) q))
         text-turned a = ap (textAmong a) turned ∙ rw (← i .attribute)

@@ -1,5 +1,5 @@
 -- Document 01, "The answer, first that applies", steps 7 to 10: of a request's URI. Assumes nothing.
-use Prim.Native.Nat.{ℕ, _≤_}
+use Prim.Native.Nat.{ℕ, _+_, _≤_}
 use mathlib.Core.Path.{_≡_}
 use mathlib.Core.Bool.{Bool, true, false, not, cond, _&&_, _||_}
 use mathlib.Core.List.{List, []}
@@ -9,9 +9,9 @@ use Rattle.scan.specs.Lists.{Holds}
 use Rattle.scan.specs.declared.Span.{Span}
 use Rattle.digits.specs.declared.Read.{Read}
 use Rattle.digits.specs.declared.Read.the-variants.{Value as Number, Nothing}
-use Rattle.target.specs.Uri.{isUri, streamOf, hostOf, hasQuery, queryOf, UriIs}
+use Rattle.target.specs.Uri.{isUri, streamOf, hostOf, question, hasQuery, queryOf, UriIs}
 use Rattle.target.specs.declared.Uri.{Uri}
-use Rattle.aim.specs.Query.{isQuery, areWithin, codeOf, textOf, nowhere}
+use Rattle.aim.specs.Query.{isQuery, areWithin, codeOf, textOf, startOf, nowhere}
 use Rattle.aim.specs.Refusals.{_refuses_or_, isPassed}
 use Rattle.aim.specs.declared.refusals.Refusal.{Refusal}
 use Rattle.aim.specs.declared.refusals.Refusal.the-variants.{Passed, UriLong, UriForm, QueryUntaken, QueryForm, PidsClash, PidsUnstreamed, NoStream}
@@ -79,8 +79,16 @@ codeIn frontends a u = cond (hasQuery u) (codeOf frontends a (queryOf u)) 0
 abbrev pub textIn : ℕ → List ℕ → List ℕ
 textIn a u = cond (hasQuery u) (textOf a (queryOf u)) []
 
+-- and where that starts in the query, 0 where it is not given
+abbrev pub startIn : ℕ → List ℕ → ℕ
+startIn a u = cond (hasQuery u) (startOf a (queryOf u)) 0
+
 abbrev pub queryIn : List ℕ → List ℕ
 queryIn u = cond (hasQuery u) (queryOf u) []
+
+-- where it starts, 0 where there is none
+abbrev pub queryStart : List ℕ → ℕ
+queryStart u = cond (hasQuery u) (question u + 1) 0
 
 -- what is given of a refused URI
 abbrev pub refusedAim : Refusal → Aim
@@ -114,4 +122,7 @@ pub record AimIs (frontends : ℕ) (method : Method) (u : List ℕ) (r : Aim) : 
   pub query : r .refusal ≡ Passed → Holds u (queryIn u) (r .query .start) (r .query .end)
   pub codes : r .refusal ≡ Passed → (a : ℕ) → getD (r .codes) a 0 ≡ codeIn frontends a u
   pub spans : r .refusal ≡ Passed → (a : ℕ) → Holds (queryIn u) (textIn a u) (getD (r .spans) a nowhere .start) (getD (r .spans) a nowhere .end)
+  pub host-starts : r .refusal ≡ Passed → r .host .start ≡ 7
+  pub query-starts : r .refusal ≡ Passed → r .query .start ≡ queryStart u
+  pub starts : r .refusal ≡ Passed → (a : ℕ) → getD (r .spans) a nowhere .start ≡ startIn a u
   pub refused : isPassed (r .refusal) ≡ false → r ≡ refusedAim (r .refusal)

@@ -6,7 +6,7 @@ use mathlib.Core.List.{List, [], _∷_}
 use lib.Dec.{ltb, eqb}
 use lib.ListN.{length, drop, getD, replicate}
 use Rattle.scan.specs.Lists.{all, first, part, Holds}
-use Rattle.scan.specs.Cut.{is, cut}
+use Rattle.scan.specs.Cut.{is, cut, placeIn}
 use Rattle.scan.specs.declared.Span.{Span}
 use Rattle.digits.specs.Reading.{isValue}
 use Rattle.digits.specs.declared.Read.{Read}
@@ -72,6 +72,13 @@ textAmong a (p ∷ ps) = cond (eqb (attributeIn p) a) (valueIn p) (textAmong a p
 unfoldable pub textOf : ℕ → List ℕ → List ℕ
 textOf a q = textAmong a (partsOf q)
 
+-- and where it starts in the query, 0 where it is not given
+abbrev pub startAmong : ℕ → ℕ → List (List ℕ) → ℕ
+startAmong a at ps = placeIn (λ p. eqb (attributeIn p) a) (λ p. equals p + 1) 1 at ps
+
+unfoldable pub startOf : ℕ → List ℕ → ℕ
+startOf a q = startAmong a 0 (partsOf q)
+
 -- what one part is: its attribute, and where its value starts
 pub record PartIs (p : List ℕ) (r : Part) : Type 0 where
   pub attribute : r .attribute ≡ attributeIn p
@@ -90,5 +97,6 @@ pub record QueryIs (frontends : ℕ) (q : List ℕ) (r : Query) : Type 0 where
   pub within : r .sound ≡ true → r .within ≡ areWithin frontends q
   pub codes : r .sound ≡ true → (a : ℕ) → getD (r .codes) a 0 ≡ codeOf frontends a q
   pub spans : r .sound ≡ true → (a : ℕ) → Holds q (textOf a q) (getD (r .spans) a nowhere .start) (getD (r .spans) a nowhere .end)
+  pub starts : r .sound ≡ true → (a : ℕ) → getD (r .spans) a nowhere .start ≡ startOf a q
   pub thirteen : (length (r .codes) ≡ 13) × (length (r .spans) ≡ 13)
   pub broken : r .sound ≡ false → r ≡ brokenQuery

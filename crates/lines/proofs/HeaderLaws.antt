@@ -9,7 +9,7 @@ use lib.ListN.{length, drop}
 use borrow.Author.Tests.{lt-ltb, le-ltb}
 use Rattle.scan.specs.Lists.{all, part, FirstOf}
 use Rattle.scan.specs.Classes.{isName}
-use Rattle.scan.specs.Trim.{trim, Trimmed}
+use Rattle.scan.specs.Trim.{leading, trim, Trimmed}
 use Rattle.scan.specs.Cut.{is}
 use Rattle.scan.specs.Words.{placeAmong}
 use Rattle.scan.specs.declared.Case.the-variants.{Ignored}
@@ -25,7 +25,7 @@ module _ (line : List ℕ) {k : ℕ} (f : FirstOf (is 58) line k) where
   tests = rw (f .is)
 
   none : {r : Header} → r ≡ noHeader → isHeader line ≡ false → HeaderIs line r
-  none e n = rw e (record { kind = rw n; value = λ y. never y n; order = omega arith; within = omega arith })
+  none e n = rw e (record { kind = rw n; value = λ y. never y n; starts = λ y. never y n; order = omega arith; within = omega arith })
 
   pub header-empty : {r : Header} → r ≡ noHeader → k ≡ 0 → HeaderIs line r
   header-empty e z = none e (tests ∙ rw z)
@@ -48,6 +48,7 @@ module _ (line : List ℕ) {k : ℕ} (f : FirstOf (is 58) line k) where
         record {
           kind = rw whole (q ∙ ap (λ j. placeAmong Ignored known (part 0 j line)) (f .is));
           value = λ _. rw (ap trim rest) at held;
+          starts = λ _. ap (λ j. k + 1 + j) (w .starts ∙ ap leading rest) ∙ ap (λ j. j + 1 + leading (drop (colon line + 1) line)) (f .is);
           order = held .order;
           within = held .within;
         }

@@ -4,11 +4,12 @@ use mathlib.Core.Bool.{Bool, true, false, cond, _&&_}
 use mathlib.Core.List.{List, [], _∷_, _++_, append-nil, append-assoc}
 use Prim.Native.Nat.{ℕ, suc, _+_, _-_, _≤_, _<_, min}
 use native.Mathlib.Decide.{ℕ-discrete}
+use native.Mathlib.Nat.{sub-zero}
 use native.Mathlib.Omega.{arith}
 use lib.Dec.{eqb}
 use lib.ListN.{length, drop, getD, set, replicate, length-append, length-set, drop-of-length-le}
 use lib.Seq.{getD-set-same, getD-set-other}
-use borrow.Author.Tests.{le-leb, lt-leb, eq-eqb, ne-eqb}
+use borrow.Author.Tests.{le-leb, lt-leb, eqb-true, eq-eqb, ne-eqb}
 use Rattle.scan.specs.Lists.{all, part, Holds, FirstFrom}
 use Rattle.scan.specs.Classes.{inClass}
 use Rattle.scan.specs.Trim.{isEmpty}
@@ -16,10 +17,10 @@ use Rattle.scan.specs.Cut.{cut}
 use Rattle.scan.specs.Words.{isWord, placeAmong}
 use Rattle.scan.specs.declared.Case.the-variants.{Ignored}
 use Rattle.scan.specs.declared.Class.the-variants.{NotText}
-use Rattle.scan.proofs.Bools.{never, by-test, by-cases}
+use Rattle.scan.proofs.Bools.{never, by-test, by-cases, cond-keeps}
 use Rattle.scan.proofs.Loops.{first-within}
 use Rattle.scan.proofs.Parts.{part-length, part-empty, all-same, some-part, holds-nothing, holds-inside}
-use Rattle.lines.specs.Headers.{known, nameOf, isHeader, headerOf, valueOf, valuesOf}
+use Rattle.lines.specs.Headers.{known, nameOf, isHeader, headerOf, valueOf, valueAt, valuesOf, firstStart}
 use Rattle.lines.specs.Lines.{lines, areHeaders, areLines, isLaidOut, requestLine, headerLines, untilEmpty}
 use Rattle.lines.specs.Laid.{HeaderIs, SeenIs, unseen, seenAgain, isPairAt, brokenLines, HeadersAre, LinesAre}
 use Rattle.lines.specs.declared.Seen.{Seen}
@@ -46,16 +47,42 @@ pub record Sent (s : List ℕ) (whole rest : List (List ℕ)) (seen : Seen) : Ty
 unseen-is : (s : List ℕ) → SeenIs s [] unseen
 unseen-is s = record { times = refl; value = holds-nothing s }
 
--- the header lines before place p are seen
-pub record Noting (s : List ℕ) (all : List (List ℕ)) (p : ℕ) (hs : List Seen) : Type 0 where
+-- where the first value of a kind starts: as it was seen, or in the lines still to come
+abbrev startSo : ℕ → ℕ → List (List ℕ) → Seen → ℕ
+startSo k p rest seen = cond (eqb (seen .times) 0) (firstStart k p rest) (seen .start)
+
+start-end : (k p : ℕ) (seen : Seen) → (eqb (seen .times) 0 ≡ true → seen .start ≡ 0) → startSo k p [] seen ≡ seen .start
+start-end k p seen h =
+    by-test (λ t. (t ≡ true → seen .start ≡ 0) → cond t 0 (seen .start) ≡ seen .start) (eqb (seen .times) 0) (λ _ u. sym (u refl)) (λ _ _. refl) h
+
+-- with a value of the kind, which starts at a, and without
+start-here : (k p a e : ℕ) (rest later : List (List ℕ)) (q : ℕ) (seen : Seen) → firstStart k p rest ≡ a → startSo k p rest seen ≡ startSo k q later (seenAgain seen a e)
+start-here k p a e rest later q seen h =
+    by-test (λ t. cond t (firstStart k p rest) (seen .start) ≡ startSo k q later (cond t (record { times = 1; start = a; end = e }) (record { times = 2; start = seen .start; end = seen .end })))
+    (eqb (seen .times) 0) (λ _. h) (λ _. refl)
+
+seen-some : (seen : Seen) (a e : ℕ) → eqb (seenAgain seen a e .times) 0 ≡ false
+seen-some seen a e = cond-keeps (λ (x : Seen). eqb (x .times) 0 ≡ false) (eqb (seen .times) 0) _ _ (λ _. refl) (λ _. refl)
+
+-- the header lines from place `from` up to place p are seen
+pub record Noting (s : List ℕ) (all : List (List ℕ)) (from p : ℕ) (hs : List Seen) : Type 0 where
   pub inside : p ≤ length s
   pub same : areHeaders (lines (drop p s)) ≡ areHeaders all
   pub six : length hs ≡ 6
   pub seen : (k : ℕ) → Sent s (valuesOf k (untilEmpty all)) (valuesOf k (untilEmpty (lines (drop p s)))) (getD hs k unseen)
+  pub begins : (k : ℕ) → firstStart k from (untilEmpty all) ≡ startSo k p (untilEmpty (lines (drop p s))) (getD hs k unseen)
+  pub unbegun : (k : ℕ) → eqb (getD hs k unseen .times) 0 ≡ true → getD hs k unseen .start ≡ 0
 
-pub noting-start : (s : List ℕ) (p : ℕ) → p ≤ length s → Noting s (lines (drop p s)) p (replicate 6 unseen)
+pub noting-start : (s : List ℕ) (p : ℕ) → p ≤ length s → Noting s (lines (drop p s)) p p (replicate 6 unseen)
 noting-start s p h =
-    record { inside = h; same = refl; six = refl; seen = λ k. rw (all-same 6 k unseen) (record { done = []; split = refl; is = unseen-is s }) }
+    record {
+      inside = h;
+      same = refl;
+      six = refl;
+      seen = λ k. rw (all-same 6 k unseen) (record { done = []; split = refl; is = unseen-is s });
+      begins = λ k. rw (all-same 6 k unseen);
+      unbegun = λ k _. ap (λ (x : Seen). x .start) (all-same 6 k unseen);
+    }
 
 -- a kind is at most 5 exactly if the line is a header
 few-kinds : (line : List ℕ) → headerOf line ≤ 5
@@ -70,19 +97,21 @@ not-header : (line : List ℕ) {r : Header} → HeaderIs line r → 5 < r .kind 
 not-header line {r} h w =
     by-test (λ t. r .kind ≡ cond t (headerOf line) 6 → t ≡ false) (isHeader line) (λ _ k. absurd (omega (arith, few-kinds line))) (λ _ _. refl) (h .kind)
 
-module _ {s : List ℕ} {ls : List (List ℕ)} {p e : ℕ} {hs : List Seen} {t : Bool} (n : Noting s ls p hs) (f : FirstFrom (inClass NotText) s p e) (q : t ≡ isPairAt s e) where
+module _ {s : List ℕ} {ls : List (List ℕ)} {from p e : ℕ} {hs : List Seen} {t : Bool} (n : Noting s ls from p hs) (f : FirstFrom (inClass NotText) s p e) (q : t ≡ isPairAt s e) where
   -- no pair ends the line
   pub noting-bad : t ≡ false → areHeaders ls ≡ false
   noting-bad z = sym (n .same) ∙ no-headers s f q z
 
   module _ (y : t ≡ true) where
     -- the line is empty
-    pub noting-end : e ≡ p → (areHeaders ls ≡ eqb (e + 2) (length s)) × ((k : ℕ) → SeenIs s (valuesOf k (untilEmpty ls)) (getD hs k unseen))
+    pub noting-end : e ≡ p
+        → (areHeaders ls ≡ eqb (e + 2) (length s)) × ((k : ℕ) → SeenIs s (valuesOf k (untilEmpty ls)) (getD hs k unseen)) × ((k : ℕ) → getD hs k unseen .start ≡ firstStart k from (untilEmpty ls))
     noting-end z =
         let turn : lines (drop p s) ≡ [] ∷ lines (drop (e + 2) s) = line-turn s f q y ∙ ap (λ l. l ∷ lines (drop (e + 2) s)) (part-empty p e s (omega arith)) in (
           sym (n .same) ∙ ap areHeaders turn ∙ last-line s (e + 2) (line-fits s f q y),
           λ k. let m = n .seen k in
               rw (m .split ∙ ap (λ r. m .done ++ valuesOf k (untilEmpty r)) turn ∙ append-nil (m .done)) (m .is),
+          λ k. sym (n .begins k ∙ ap (λ r. startSo k p (untilEmpty r) (getD hs k unseen)) turn ∙ start-end k p (getD hs k unseen) (n .unbegun k)),
         )
 
     -- it is not
@@ -103,7 +132,10 @@ module _ {s : List ℕ} {ls : List (List ℕ)} {p e : ℕ} {hs : List Seen} {t :
       pub noting-not : 5 < r .kind → areHeaders ls ≡ false
       noting-not w = sym (n .same) ∙ after ∙ rw (not-header (part p e s) h w)
 
-      pub noting-more : r .kind ≤ 5 → Noting s ls (e + 2) (set hs (r .kind) (seenAgain (getD hs (r .kind) unseen) (p + r .start) (p + r .end)))
+      abbrev again : Seen
+      again = seenAgain (getD hs (r .kind) unseen) (p + r .start) (p + r .end)
+
+      pub noting-more : r .kind ≤ 5 → Noting s ls from (e + 2) (set hs (r .kind) (seenAgain (getD hs (r .kind) unseen) (p + r .start) (p + r .end)))
       noting-more w =
           let head : isHeader (part p e s) ≡ true = is-header (part p e s) h w in
           let kind : r .kind ≡ headerOf (part p e s) = h .kind ∙ rw head in
@@ -115,8 +147,38 @@ module _ {s : List ℕ} {ls : List (List ℕ)} {p e : ℕ} {hs : List Seen} {t :
             same = sym (after ∙ rw head) ∙ n .same;
             six = length-set hs (r .kind) (seenAgain (getD hs (r .kind) unseen) (p + r .start) (p + r .end)) ∙ n .six;
             seen = λ k. sent-more k (n .seen k) (rest k) kind value;
+            begins = λ k. n .begins k ∙ begins-more k kind (ap (λ j. p + j) (h .starts head));
+            unbegun = λ k. unbegun-more k;
           }
         where
+          start-turned : (k : ℕ) → firstStart k p (untilEmpty (lines (drop p s))) ≡ cond (eqb (headerOf (part p e s)) k) (p + valueAt (part p e s)) (firstStart k (e + 2) (untilEmpty (lines (drop (e + 2) s))))
+          start-turned k =
+              let l : length (part p e s) ≡ e - p = part-length p e s (omega (arith, line-fits s f q y)) in
+              let m : p + length (part p e s) + 2 ≡ e + 2 = omega (arith, more) in
+              ap (λ l. firstStart k p (untilEmpty l)) (line-turn s f q y) ∙ rw (some, m)
+
+          begins-more : (k : ℕ) → r .kind ≡ headerOf (part p e s) → p + r .start ≡ p + valueAt (part p e s)
+              → startSo k p (untilEmpty (lines (drop p s))) (getD hs k unseen) ≡ startSo k (e + 2) (untilEmpty (lines (drop (e + 2) s))) (getD (set hs (r .kind) again) k unseen)
+          begins-more k i v =
+              by-cases (ℕ-discrete (r .kind) k)
+              (λ j.
+              let l : k < length hs = omega (arith, n .six) in
+              rw (j, getD-set-same hs k (seenAgain (getD hs k unseen) (p + r .start) (p + r .end)) unseen l)
+              (start-here k p (p + r .start) (p + r .end) (untilEmpty (lines (drop p s))) (untilEmpty (lines (drop (e + 2) s))) (e + 2) (getD hs k unseen)
+              (start-turned k ∙ rw (eq-eqb (headerOf (part p e s)) k (sym i ∙ j)) (sym v))))
+              (λ j.
+              rw (getD-set-other hs (r .kind) k again unseen (λ x. j (sym x)))
+              (ap (λ b. cond (eqb (getD hs k unseen .times) 0) b (getD hs k unseen .start)) (start-turned k ∙ rw (ne-eqb (headerOf (part p e s)) k (λ x. j (i ∙ x))))))
+
+          unbegun-more : (k : ℕ) → eqb (getD (set hs (r .kind) again) k unseen .times) 0 ≡ true → getD (set hs (r .kind) again) k unseen .start ≡ 0
+          unbegun-more k =
+              by-cases (ℕ-discrete (r .kind) k)
+              (λ j.
+              let l : k < length hs = omega (arith, n .six) in
+              rw (j, getD-set-same hs k (seenAgain (getD hs k unseen) (p + r .start) (p + r .end)) unseen l)
+              (λ t. never t (seen-some (getD hs k unseen) (p + r .start) (p + r .end))))
+              (λ j. rw (getD-set-other hs (r .kind) k again unseen (λ x. j (sym x))) (n .unbegun k))
+
           rest : (k : ℕ) → valuesOf k (untilEmpty (lines (drop p s))) ≡ cond (eqb (headerOf (part p e s)) k) (valueOf (part p e s) ∷ valuesOf k (untilEmpty (lines (drop (e + 2) s)))) (valuesOf k (untilEmpty (lines (drop (e + 2) s))))
           rest k = ap (λ l. valuesOf k (untilEmpty l)) (line-turn s f q y) ∙ rw some
 
@@ -142,11 +204,13 @@ module _ {s : List ℕ} {ls : List (List ℕ)} {p e : ℕ} {hs : List Seen} {t :
 
 -- THE WAYS OUT OF THE LOOP, of the header lines from place p on
 pub headers-broken : {s : List ℕ} {line : ℕ} {r : Lines} → r ≡ brokenLines → areHeaders (lines (drop (line + 2) s)) ≡ false → HeadersAre s line r
-headers-broken e n = rw e (record { sound = sym n; ended = λ y. never y refl; headers = λ y. never y refl; none = λ _. refl })
+headers-broken e n =
+    rw e (record { sound = sym n; ended = λ y. never y refl; headers = λ y. never y refl; starts = λ y. never y refl; none = λ _. refl })
 
 pub headers-whole : {s : List ℕ} {line : ℕ} {hs : List Seen} → areHeaders (lines (drop (line + 2) s)) ≡ true
-    → ((k : ℕ) → SeenIs s (valuesOf k (untilEmpty (lines (drop (line + 2) s)))) (getD hs k unseen)) → HeadersAre s line (record { headers = hs; sound = true; line = line })
-headers-whole w h = record { sound = sym w; ended = λ _. refl; headers = λ _. h; none = λ n. never refl n }
+    → ((k : ℕ) → SeenIs s (valuesOf k (untilEmpty (lines (drop (line + 2) s)))) (getD hs k unseen))
+    → ((k : ℕ) → getD hs k unseen .start ≡ firstStart k (line + 2) (untilEmpty (lines (drop (line + 2) s)))) → HeadersAre s line (record { headers = hs; sound = true; line = line })
+headers-whole w h b = record { sound = sym w; ended = λ _. refl; headers = λ _. h; starts = λ _. b; none = λ n. never refl n }
 
 -- a value's span, moved to its line's place, stays inside the request
 pub span-inside : (s : List ℕ) {p e : ℕ} {r : Header} → p ≤ e → e ≤ length s → HeaderIs (part p e s) r → (p + r .start ≤ length s) × (p + r .end ≤ length s)
@@ -158,7 +222,8 @@ span-inside s {p} {e} {r} h k i =
 
 -- THE WHOLE REQUEST
 pub lines-broken : {s : List ℕ} {r : Lines} → isLaidOut s ≡ false → r ≡ brokenLines → LinesAre s r
-lines-broken n e = rw e (record { sound = sym n; line = λ y. never y refl; headers = λ y. never y refl; none = λ _. refl })
+lines-broken n e =
+    rw e (record { sound = sym n; line = λ y. never y refl; headers = λ y. never y refl; starts = λ y. never y refl; none = λ _. refl })
 
 pub lines-long : (s : List ℕ) {r : Lines} → 2048 < length s → r ≡ brokenLines → LinesAre s r
 unfolding isLaidOut
@@ -188,6 +253,7 @@ module _ (s : List ℕ) {e : ℕ} (short : length s ≤ 2048) (f : FirstFrom (in
           sound = sym (laid-alone z ∙ eq-eqb 2 (length s) (sym l));
           line = λ _. rw last (record { order = omega arith; within = omega arith; is = refl });
           headers = λ _ k. rw (last, all-same 6 k unseen) (unseen-is s);
+          starts = λ _ k. rw (last, all-same 6 k unseen);
           none = λ n. never refl n;
         }
 
@@ -200,9 +266,11 @@ module _ (s : List ℕ) {e : ℕ} (short : length s ≤ 2048) (f : FirstFrom (in
         let turn : lines s ≡ part 0 e s ∷ lines (drop (e + 2) s) = line-turn s f q y in
         let fit : e + 2 ≤ length s = line-fits s f q y in
         let some : isEmpty (part 0 e s) ≡ false = some-part s 0 e (omega arith) (omega arith) in
+        let long : length (part 0 e s) ≡ e = part-length 0 e s (omega arith) ∙ sub-zero e in
         record {
           sound = h .sound ∙ sym (laid ∙ ap areLines turn ∙ rw (some, line-text s f q));
           line = λ w. rw (turn, h .ended w) (record { order = omega arith; within = omega arith; is = refl });
           headers = λ w k. rw turn (h .headers w k);
+          starts = λ w k. rw (turn, long) (h .starts w k);
           none = h .none;
         }

@@ -8,8 +8,8 @@ use lib.ListN.{length, drop}
 use Rattle.scan.specs.Text.{text}
 use Rattle.scan.specs.Lists.{all, first, part}
 use Rattle.scan.specs.Classes.{isName}
-use Rattle.scan.specs.Trim.{trim}
-use Rattle.scan.specs.Cut.{is}
+use Rattle.scan.specs.Trim.{leading, trim}
+use Rattle.scan.specs.Cut.{is, placeIn}
 use Rattle.scan.specs.Words.{placeAmong}
 use Rattle.scan.specs.declared.Case.the-variants.{Ignored}
 
@@ -24,6 +24,10 @@ isHeader line = ltb 0 (colon line) && (ltb (colon line) (length line) && all isN
 
 abbrev pub valueOf : List ℕ → List ℕ
 valueOf line = trim (drop (colon line + 1) line)
+
+-- where that starts in the line
+abbrev pub valueAt : List ℕ → ℕ
+valueAt line = colon line + 1 + leading (drop (colon line + 1) line)
 
 -- a header by its place among the known ones, 5 for any other
 abbrev pub known : List ℕ
@@ -41,3 +45,7 @@ valuesOf k (h ∷ hs) = cond (eqb (headerOf h) k) (valueOf h ∷ valuesOf k hs) 
 abbrev pub firstValue : List (List ℕ) → List ℕ
 firstValue [] = []
 firstValue (v ∷ vs) = v
+
+-- and where that starts, of header lines from place `at` on, with CR LF between two: 0 where there is none
+abbrev pub firstStart : ℕ → ℕ → List (List ℕ) → ℕ
+firstStart k at hs = placeIn (λ h. eqb (headerOf h) k) valueAt 2 at hs

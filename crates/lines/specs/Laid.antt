@@ -7,7 +7,7 @@ use mathlib.Core.List.{List}
 use lib.Dec.{eqb}
 use lib.ListN.{length, drop, getD, replicate}
 use Rattle.scan.specs.Lists.{Holds}
-use Rattle.lines.specs.Headers.{isHeader, headerOf, valueOf, valuesOf, firstValue}
+use Rattle.lines.specs.Headers.{isHeader, headerOf, valueOf, valueAt, valuesOf, firstValue, firstStart}
 use Rattle.lines.specs.Lines.{lines, areHeaders, untilEmpty, isLaidOut, requestLine, headerLines}
 use Rattle.lines.specs.declared.Seen.{Seen}
 use Rattle.lines.specs.declared.Header.{Header}
@@ -17,6 +17,7 @@ use Rattle.lines.specs.declared.Lines.{Lines}
 pub record HeaderIs (line : List ℕ) (r : Header) : Type 0 where
   pub kind : r .kind ≡ cond (isHeader line) (headerOf line) 6
   pub value : isHeader line ≡ true → Holds line (valueOf line) (r .start) (r .end)
+  pub starts : isHeader line ≡ true → r .start ≡ valueAt line
   pub order : r .start ≤ r .end
   pub within : r .end ≤ length line
 
@@ -49,11 +50,17 @@ pub record HeadersAre (s : List ℕ) (line : ℕ) (r : Lines) : Type 0 where
   pub sound : r .sound ≡ areHeaders (lines (drop (line + 2) s))
   pub ended : r .sound ≡ true → r .line ≡ line
   pub headers : r .sound ≡ true → (k : ℕ) → SeenIs s (valuesOf k (untilEmpty (lines (drop (line + 2) s)))) (getD (r .headers) k unseen)
+  pub starts : r .sound ≡ true → (k : ℕ) → getD (r .headers) k unseen .start ≡ firstStart k (line + 2) (untilEmpty (lines (drop (line + 2) s)))
   pub none : r .sound ≡ false → r ≡ brokenLines
+
+-- where the first value of a kind starts in a request, 0 where there is none
+abbrev pub valueStart : ℕ → List ℕ → ℕ
+valueStart k s = firstStart k (length (requestLine s) + 2) (headerLines s)
 
 -- the whole request
 pub record LinesAre (s : List ℕ) (r : Lines) : Type 0 where
   pub sound : r .sound ≡ isLaidOut s
   pub line : r .sound ≡ true → Holds s (requestLine s) 0 (r .line)
   pub headers : r .sound ≡ true → (k : ℕ) → SeenIs s (valuesOf k (headerLines s)) (getD (r .headers) k unseen)
+  pub starts : r .sound ≡ true → (k : ℕ) → getD (r .headers) k unseen .start ≡ valueStart k s
   pub none : r .sound ≡ false → r ≡ brokenLines

@@ -1,6 +1,5 @@
 -- One answer: any two results that the contract of a public function allows for the same input are equal, and so are the lent buffers after
--- the call. Where a result says where a text stands, two may differ in the place and not in the text (`Alike`). The contract itself is cited:
--- `ended` is the function's signature, and `Reads.Post` what its `ensures` says. Assumes nothing.
+-- the call. The contract itself is cited: `ended` is the function's signature, and `Reads.Post` what its `ensures` says. Assumes nothing.
 use mathlib.Core.Path.{_≡_, refl, sym, _∙_}
 use mathlib.Core.List.{List}
 use Prim.Native.Nat.{ℕ}
@@ -31,7 +30,7 @@ use Rattle.orders.proofs as orders
 use Rattle.closings.proofs as closings
 use Rattle.serving.proofs as serving
 use Rattle.satbox.proofs as satbox
-use Rattle.promises.proofs.Alike.{trimmed-same, SameLines, lines-same, parts-same, SameUri, uri-same, SameAim, aim-same, SameRequest, request-same}
+use Rattle.promises.proofs.Alike.{trimmed-same, lines-same, parts-same, uri-same, aim-same, request-same}
 
 -- what a contract allows for the arguments: a result, and the parameters at exit
 abbrev pub Contract : Ended → Type 1
@@ -43,13 +42,12 @@ Unique T Allows =
     (κs : Lfts (T .signature .lifetimes)) (a : Args (T .signature) κs) (x y : Res (T .signature) κs) (v w : Lasts T κs a)
     → Allows κs a x (atExit T κs a v) → Allows κs a y (atExit T κs a w) → (x ≡ y) × (v ≡ w)
 
--- the same, but the results are alike; the machine values m and n say that each is of its type, and so how long its arrays are
-abbrev pub UniqueBut : (T : Ended) → Contract T
-    → ((κs : Lfts (T .signature .lifetimes)) → Args (T .signature) κs → Res (T .signature) κs → Res (T .signature) κs → Type 0) → Type 0
-UniqueBut T Allows Alike =
+-- the same of results that a machine can hold: the machine values m and n say that each is of its type, and so how long its arrays are
+abbrev pub UniqueHeld : (T : Ended) → Contract T → Type 0
+UniqueHeld T Allows =
     (κs : Lfts (T .signature .lifetimes)) (a : Args (T .signature) κs) (x y : Res (T .signature) κs) (v w : Lasts T κs a) (m n : List Val)
     → Is (typeAt (T .signature .result) κs) x m → Is (typeAt (T .signature .result) κs) y n
-    → Allows κs a x (atExit T κs a v) → Allows κs a y (atExit T κs a w) → Alike κs a x y × (v ≡ w)
+    → Allows κs a x (atExit T κs a v) → Allows κs a y (atExit T κs a w) → (x ≡ y) × (v ≡ w)
 
 -- what two equations say, alone and of a function that is lent no buffer; and what two puts into the first buffer say
 pub one : {A : Type 0} {x y z : A} → x ≡ z → y ≡ z → x ≡ y
@@ -124,9 +122,12 @@ journal-write κs a x y v w = same
 pub journal-put : Unique journal.put.ended journal.put.Reads.Post
 journal-put κs a x y v w = wrote
 
--- LINES: where the values stand is open
-pub lines-read-lines : UniqueBut lines.read_lines.ended lines.read_lines.Reads.Post (λ κs a. SameLines (a .0 .now))
-lines-read-lines κs a x y v w m n i j p q = (lines-same (a .0 .now) x y p q, refl)
+-- LINES
+pub lines-read-lines : UniqueHeld lines.read_lines.ended lines.read_lines.Reads.Post
+lines-read-lines κs a x y v w m n i j p q =
+    let e : length (x .headers) ≡ 6 = search (known, i) in
+    let f : length (y .headers) ≡ 6 = search (known, j) in
+    (lines-same (a .0 .now) x y p q (e ∙ sym f), refl)
 
 -- TUNING
 pub tuning-attribute-of : Unique tuning.attribute_of.ended tuning.attribute_of.Reads.Post
@@ -135,17 +136,17 @@ tuning-attribute-of κs a x y v w = same
 pub tuning-value-of : Unique tuning.value_of.ended tuning.value_of.Reads.Post
 tuning-value-of κs a x y v w = same
 
--- TARGET: where the host stands is open
+-- TARGET
 pub target-starts-with : Unique target.starts_with.ended target.starts_with.Reads.Post
 target-starts-with κs a x y v w = same
 
 pub target-request-line : Unique target.request_line.ended target.request_line.Reads.Post
 target-request-line κs a x y v w p q = (parts-same (a .0 .now) x y p q, refl)
 
-pub target-read-uri : UniqueBut target.read_uri.ended target.read_uri.Reads.Post (λ κs a. SameUri (a .0 .now))
-target-read-uri κs a x y v w m n i j p q = (uri-same (a .0 .now) x y p q, refl)
+pub target-read-uri : Unique target.read_uri.ended target.read_uri.Reads.Post
+target-read-uri κs a x y v w p q = (uri-same (a .0 .now) x y p q, refl)
 
--- AIM: where the host, the query and the values stand is open
+-- AIM
 pub aim-step : Unique aim.step.ended aim.step.Reads.Post
 aim-step κs a x y v w = same
 
@@ -155,18 +156,22 @@ aim-status κs a x y v w = same
 pub aim-is-passed : Unique aim.is_passed.ended aim.is_passed.Reads.Post
 aim-is-passed κs a x y v w = same
 
-pub aim-read-aim : UniqueBut aim.read_aim.ended aim.read_aim.Reads.Post (λ κs a. SameAim (a .1 .0 .now))
+pub aim-read-aim : UniqueHeld aim.read_aim.ended aim.read_aim.Reads.Post
 aim-read-aim κs a x y v w m n i j p q =
     let e : length (x .codes) ≡ 13 = search (known, i) in
     let f : length (y .codes) ≡ 13 = search (known, j) in
-    (aim-same (a .1 .1 .0) (a .0) (a .1 .0 .now) x y p q (e ∙ sym f), refl)
+    let g : length (x .spans) ≡ 13 = search (known, i) in
+    let h : length (y .spans) ≡ 13 = search (known, j) in
+    (aim-same (a .1 .1 .0) (a .0) (a .1 .0 .now) x y p q (e ∙ sym f) (g ∙ sym h), refl)
 
--- READER: where those and a Require value stand is open
-pub reader-read : UniqueBut reader.read.ended reader.read.Reads.Post (λ κs a. SameRequest (a .0 .now))
+-- READER
+pub reader-read : UniqueHeld reader.read.ended reader.read.Reads.Post
 reader-read κs a x y v w m n i j p q =
     let e : length (x .codes) ≡ 13 = search (known, i) in
     let f : length (y .codes) ≡ 13 = search (known, j) in
-    (request-same (a .1 .0) (a .0 .now) x y p q (e ∙ sym f), refl)
+    let g : length (x .spans) ≡ 13 = search (known, i) in
+    let h : length (y .spans) ≡ 13 = search (known, j) in
+    (request-same (a .1 .0) (a .0 .now) x y p q (e ∙ sym f) (g ∙ sym h), refl)
 
 -- STREAM
 pub stream-blank : Unique stream.Stream.blank.ended stream.Stream.blank.Reads.Post

@@ -13,7 +13,7 @@ use Rattle.scan.specs.Compare.{areAlike}
 use Rattle.scan.specs.declared.Span.{Span}
 use Rattle.scan.specs.declared.Case.the-variants.{Counts}
 use Rattle.scan.proofs.Bools.{never}
-use Rattle.scan.proofs.Parts.{part-length, holds-inside}
+use Rattle.scan.proofs.Parts.{part-length, holds-length, holds-inside}
 use native.Mathlib.Nat.{zero-add}
 use Rattle.digits.specs.Reading.{readNumber, isValue}
 use Rattle.digits.specs.declared.Read.{Read}
@@ -21,7 +21,7 @@ use Rattle.digits.specs.declared.Read.the-variants.{Nothing}
 use Rattle.digits.specs.declared.Zeros.the-variants.{Allowed}
 use Rattle.lines.specs.Lines.{isLaidOut, requestLine, headerLines}
 use Rattle.lines.specs.Headers.{valuesOf, firstValue}
-use Rattle.lines.specs.Laid.{unseen, SeenIs, LinesAre}
+use Rattle.lines.specs.Laid.{unseen, SeenIs, valueStart, LinesAre}
 use Rattle.lines.specs.declared.Seen.{Seen}
 use Rattle.lines.specs.declared.Lines.{Lines}
 use Rattle.target.specs.Line.{isThree, linePart, PartsAre}
@@ -30,7 +30,7 @@ use Rattle.reader.specs.Fields.{cseqFrom, sessionOf, sessionIn, transpor
 use Rattle.reader.specs.Heads.{textAt, cseqAt, sessionAt, areTwice, Begun, Headed, Passing}
 use Rattle.aim.specs.Query.{nowhere}
 use Rattle.aim.specs.Refusals.{_refuses_or_, stepOf, isPassed}
-use Rattle.reader.specs.Request.{methodIn, isOther, cseqOf, isTwice, methodOf, uriOf, isVersion, headRefusal, requestRefusal, refusedRequest, RequestIs}
+use Rattle.reader.specs.Request.{methodIn, isOther, cseqOf, isTwice, methodOf, uriOf, uriStart, isVersion, headRefusal, requestRefusal, refusedRequest, RequestIs}
 use Rattle.aim.specs.Aim.{AimIs}
 use Rattle.aim.specs.declared.refusals.Refusal.{Refusal}
 use Rattle.aim.specs.declared.refusals.Refusal.the-variants.{Passed, Layout, CSeq, RequestLine, HeaderTwice, Version, Require, UriLong, UriForm, QueryUntaken, QueryForm, PidsClash, PidsUnstreamed, NoStream}
@@ -74,7 +74,7 @@ module _ {s : List ℕ} {vs : List (List ℕ)} {seen : Seen} (i : SeenIs s vs se
 
 -- REFUSED REQUESTS
 pub request-refused : {frontends : ℕ} {s : List ℕ} {r : Request} {x : Refusal} {c : Read} {v : Span} → isPassed x ≡ false
-    → (headRefusal s ≡ Require → Holds s (firstValue (valuesOf 3 (headerLines s))) (v .start) (v .end))
+    → (headRefusal s ≡ Require → Holds s (firstValue (valuesOf 3 (headerLines s))) (v .start) (v .end) × (v .start ≡ valueStart 3 s))
     → ((headRefusal s ≡ Require → ⊥) → v ≡ nowhere) → x ≡ requestRefusal frontends s → c ≡ cseqOf s
     → r ≡ refusedRequest x c v → RequestIs frontends s r
 request-refused {x = x} n k u e d q =
@@ -83,7 +83,8 @@ request-refused {x = x} n k u e d q =
     (record {
       refusal = e;
       cseq = d;
-      require = k;
+      require = λ y. k y .0;
+      require-starts = λ y. k y .1;
       unrequired = u;
       method = λ y. absurd (no-pass y);
       stream = λ y. absurd (no-pass y);
@@ -91,6 +92,9 @@ request-refused {x = x} n k u e d q =
       query = λ y. absurd (no-pass y);
       codes = λ y. absurd (no-pass y);
       spans = λ y. absurd (no-pass y);
+      host-starts = λ y. absurd (no-pass y);
+      query-starts = λ y. absurd (no-pass y);
+      starts = λ y. absurd (no-pass y);
       session = λ y. absurd (no-pass y);
       transport = λ y. absurd (no-pass y);
       refused = λ _. refl;
@@ -141,6 +145,7 @@ request-passed {s = s} {a = a} p e q u =
       refusal = p .refusal;
       cseq = p .cseq-is;
       require = λ z. absurd (not-required z);
+      require-starts = λ z. absurd (not-required z);
       unrequired = λ _. u;
       method = λ _. p .method-is;
       stream = λ _. p .stream;
@@ -148,6 +153,9 @@ request-passed {s = s} {a = a} p e q u =
       query = λ _. p .query;
       codes = λ _. p .codes;
       spans = λ _. p .spans;
+      host-starts = λ _. rw (p .from-is, p .host-starts);
+      query-starts = λ _. rw (p .from-is, p .query-starts);
+      starts = λ _. p .starts;
       session = λ _. e ∙ seen-session (p .session);
       transport = λ _. q ∙ ap transportOf (seen-text (p .transport));
       refused = λ n. never (p .pass) n;
@@ -182,6 +190,9 @@ module _ (frontends : ℕ) (s : List ℕ) {l : Lines} {c : Read} {p : Parts} (h 
   -- a part of the request line, by its place
   method-held : part 0 (p .first) (part 0 (l .line) s) ≡ linePart 0 (requestLine s)
   method-held = h .parts-are .method (h .three) .is ∙ ap (linePart 0) (sym line-is)
+
+  uri-starts : p .first + 1 ≡ uriStart s
+  uri-starts = ap (λ n. n + 1) (holds-length (h .parts-are .method (h .three)) ∙ zero-add _ ∙ ap (λ l. length (linePart 0 l)) (sym line-is))
 
   uri-held : part (p .first + 1) (p .second) (part 0 (l .line) s) ≡ uriOf s
   uri-held = h .parts-are .uri (h .three) .is ∙ ap (linePart 1) (sym line-is)
@@ -238,6 +249,10 @@ module _ (frontends : ℕ) (s : List ℕ) {l : Lines} {c : Read} {p : Parts} (h 
           query = moved (own .query z);
           codes = own .codes z;
           spans = own .spans z;
+          from-is = uri-starts;
+          host-starts = own .host-starts z;
+          query-starts = own .query-starts z;
+          starts = own .starts z;
           session = h .begun .lines .headers (h .begun .whole) 1;
           transport = h .begun .lines .headers (h .begun .whole) 2;
         }
@@ -288,7 +303,7 @@ module _ (s : List ℕ) {l : Lines} {c : Read} (b : Begun s l c) where
           pub request-required : {frontends : ℕ} {r : Request} → 0 < getD (l .headers) 3 unseen .times
               → r ≡ refusedRequest Require c (record { start = getD (l .headers) 3 unseen .start; end = getD (l .headers) 3 unseen .end }) → RequestIs frontends s r
           unfolding requestRefusal
-          request-required h q = request-refused refl (λ _. seen-of 3 .value) (λ n. absurd (n (required-is h))) (rw (required-is h)) (b .cseq-is) q
+          request-required h q = request-refused refl (λ _. (seen-of 3 .value, b .lines .starts (b .whole) 3)) (λ n. absurd (n (required-is h))) (rw (required-is h)) (b .cseq-is) q
 
           pub request-headed : getD (l .headers) 3 unseen .times ≤ 0 → Headed s l c p
           request-headed h =

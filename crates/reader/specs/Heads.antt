@@ -21,8 +21,8 @@ use Rattle.reader.specs.Fields.{sessionIn}
 use Rattle.target.specs.Uri.{streamOf, hostOf}
 use Rattle.aim.specs.Query.{nowhere}
 use Rattle.aim.specs.Refusals.{isPassed}
-use Rattle.reader.specs.Request.{cseqOf, isTwice, isVersion, methodOf, uriOf, requestRefusal}
-use Rattle.aim.specs.Aim.{queryIn, textIn, codeIn}
+use Rattle.reader.specs.Request.{cseqOf, isTwice, isVersion, methodOf, uriOf, uriStart, requestRefusal}
+use Rattle.aim.specs.Aim.{queryIn, queryStart, textIn, startIn, codeIn}
 use Rattle.aim.specs.declared.Method.{Method}
 use Rattle.aim.specs.declared.Aim.{Aim}
 use Rattle.reader.specs.declared.fields.Session.{Session}
@@ -73,5 +73,9 @@ pub record Passing (frontends : ℕ) (s : List ℕ) (l : Lines) (cseq : Read) (m
   pub query : Holds s (queryIn (uriOf s)) (from + a .query .start) (from + a .query .end)
   pub codes : (k : ℕ) → getD (a .codes) k 0 ≡ codeIn frontends k (uriOf s)
   pub spans : (k : ℕ) → Holds (queryIn (uriOf s)) (textIn k (uriOf s)) (getD (a .spans) k nowhere .start) (getD (a .spans) k nowhere .end)
+  pub from-is : from ≡ uriStart s
+  pub host-starts : a .host .start ≡ 7
+  pub query-starts : a .query .start ≡ queryStart (uriOf s)
+  pub starts : (k : ℕ) → getD (a .spans) k nowhere .start ≡ startIn k (uriOf s)
   pub session : SeenIs s (valuesOf 1 (headerLines s)) (getD (l .headers) 1 unseen)
   pub transport : SeenIs s (valuesOf 2 (headerLines s)) (getD (l .headers) 2 unseen)

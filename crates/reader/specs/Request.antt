@@ -1,5 +1,5 @@
 -- Document 01, "The answer, first that applies", steps 1 to 10: of a request's bytes, and then of its URI. Assumes nothing.
-use Prim.Native.Nat.{ℕ}
+use Prim.Native.Nat.{ℕ, _+_}
 use mathlib.Core.Path.{_≡_}
 use mathlib.Core.Bool.{Bool, true, false, not, cond, _||_}
 use mathlib.Core.List.{List}
@@ -16,6 +16,7 @@ use Rattle.digits.specs.declared.Read.{Read}
 use Rattle.digits.specs.declared.Read.the-variants.{Value as Number, Nothing}
 use Rattle.lines.specs.Lines.{isLaidOut, requestLine, headerLines}
 use Rattle.lines.specs.Headers.{valuesOf, firstValue}
+use Rattle.lines.specs.Laid.{valueStart}
 use Rattle.target.specs.Line.{isThree, linePart}
 use Rattle.target.specs.Uri.{streamOf, hostOf}
 use Rattle.reader.specs.Fields.{cseqFrom, sessionOf, transportOf}
@@ -29,7 +30,7 @@ use Rattle.aim.specs.declared.Method.the-variants.{Options, Setup, Play, Teardo
 use Rattle.reader.specs.declared.fields.Session.the-variants.{Absent}
 use Rattle.reader.specs.declared.fields.Transport.the-variants.{Other as NoTransport}
 use Rattle.reader.specs.declared.Request.{Request}
-use Rattle.aim.specs.Aim.{uriRefusal, codeIn, textIn, queryIn}
+use Rattle.aim.specs.Aim.{uriRefusal, codeIn, textIn, startIn, queryIn, queryStart}
 
 -- the method of a place among the words
 infixr 50 _isMethod_or_
@@ -70,6 +71,10 @@ methodOf s = methodIn (linePart 0 (requestLine s))
 
 abbrev pub uriOf : List ℕ → List ℕ
 uriOf s = linePart 1 (requestLine s)
+
+-- and where that starts: behind the method and a space
+abbrev pub uriStart : List ℕ → ℕ
+uriStart s = length (linePart 0 (requestLine s)) + 1
 
 abbrev pub isVersion : List ℕ → Bool
 isVersion s = areAlike Counts (linePart 2 (requestLine s)) (text "RTSP/1.0")
@@ -119,4 +124,8 @@ pub record RequestIs (frontends : ℕ) (s : List ℕ) (r : Request) : Type 0 whe
   pub spans : r .refusal ≡ Passed → (a : ℕ) → Holds (queryIn (uriOf s)) (textIn a (uriOf s)) (getD (r .spans) a nowhere .start) (getD (r .spans) a nowhere .end)
   pub session : r .refusal ≡ Passed → r .session ≡ sessionOf (valuesOf 1 (headerLines s))
   pub transport : r .refusal ≡ Passed → r .transport ≡ transportOf (firstValue (valuesOf 2 (headerLines s)))
+  pub require-starts : headRefusal s ≡ Require → r .require .start ≡ valueStart 3 s
+  pub host-starts : r .refusal ≡ Passed → r .host .start ≡ uriStart s + 7
+  pub query-starts : r .refusal ≡ Passed → r .query .start ≡ uriStart s + queryStart (uriOf s)
+  pub starts : r .refusal ≡ Passed → (a : ℕ) → getD (r .spans) a nowhere .start ≡ startIn a (uriOf s)
   pub refused : isPassed (r .refusal) ≡ false → r ≡ refusedRequest (r .refusal) (r .cseq) (r .require)

@@ -111,6 +111,7 @@ other e n =
       sound = sym n;
       stream = λ t. never t refl;
       host = λ t. never t refl;
+      starts = λ t. never t refl;
       asked = λ t. never t refl;
       query = λ t. never t refl;
       place = λ t. never t refl;
@@ -198,6 +199,7 @@ module _ {u : List ℕ} {q k : ℕ} (a : Apart u q k) where
               sound = sym (by-stream ∙ ap isValue z);
               stream = λ t. sym z ∙ p ∙ ap streamIn path-is;
               host = λ t. host-uri;
+              starts = λ t. refl;
               asked = λ t. ap (λ i. ltb i (length u)) (a .ends .is);
               place = λ t. ap (λ i. i + 1) (a .ends .is);
               query = λ t b. record {

@@ -82,6 +82,7 @@ pub record UriIs (u : List ℕ) (r : Uri) : Type 0 where
   pub sound : r .sound ≡ isUri u
   pub stream : r .sound ≡ true → Value (r .stream) ≡ streamOf u
   pub host : r .sound ≡ true → Holds u (hostOf u) (r .host .start) (r .host .end)
+  pub starts : r .sound ≡ true → r .host .start ≡ 7
   pub asked : r .sound ≡ true → r .asked ≡ hasQuery u
   pub place : r .sound ≡ true → r .query ≡ question u + 1
   pub query : r .sound ≡ true → r .asked ≡ true → Holds u (queryOf u) (r .query) (length u)

@@ -14,7 +14,7 @@ use Rattle.lines.proofs.headers_after.Statement.{statement}
 use Rattle.lines.proofs.headers_after.Tie as tie
 
 abbrev Inv-loop : tie.InvT-loop
-Inv-loop s line headers₀ p₀ headers p = Noting s (lines (drop (line + 2) s)) p headers
+Inv-loop s line headers₀ p₀ headers p = Noting s (lines (drop (line + 2) s)) (line + 2) p headers
 
 abbrev μ-loop : tie.MeasureT-loop
 μ-loop s line headers₀ p₀ headers p = length s - p
@@ -48,7 +48,7 @@ returns-2 c =
     let d = c .before .before in
     let i = d .before in
     let n = noting-end (i .before .before .loop .inv) (i .before .first-from .ensures) (i .is-pair .ensures) (paired d) (c .before .if2 .taken) in
-    headers-whole (n .0 ∙ eq-eqb _ _ (c .if3 .taken)) (n .1)
+    headers-whole (n .0 ∙ eq-eqb _ _ (c .if3 .taken)) (n .1) (n .2)
 
 returns-3 : tie.Need-returns-3 Inv-loop μ-loop
 returns-3 c =
