@@ -209,7 +209,6 @@ module _ (frontends size : ℕ) (j : List ℕ) (cs : List Call) where
       pub unkept-is-closed : sessionAt (x .satbox) i .last + 60 ≤ run ds x .satbox .clock → any (isClosingOf (sessionAt (x .satbox) i .number)) (recordsOf ds x) ≡ true
       unkept-is-closed = unkept-closed (after-good h) (after-young h) i some ds calls unkept
 
-    -- 5. AN OPENING THAT PASSES EVERY OTHER CHECK (`requestRefusal`: steps 1 to 10; `PassesElse`: the others), with any bytes s, at any clock,
     -- 5. AN OPENING THAT PASSES EVERY OTHER CHECK (`requestRefusal`: steps 1 to 10; `PassesElse`: the others), with any bytes s, at any clock
     -- (`FullBox` has a life where it is refused, and one where it is granted at the last byte),
     module _ (s : List ℕ) (clock address draw : ℕ) where
