@@ -47,7 +47,8 @@ pub record Settled (t u : SatBox) : Type 0 where
   pub frontends : u .frontends ≡ t .frontends
   pub clock : u .clock ≡ t .clock
 
--- in u the session s stands at a place, and m is the stream of an ID; every other place and every other stream is as it was in t
+-- in u the session s stands at a place, and m is the stream of an ID; every other place and every other stream is as it was in t. (Where m is the
+-- stream that the ID had, no stream changes.)
 pub record Changes (t u : SatBox) (place : ℕ) (s : Session) (id : ℕ) (m : Stream) : Type 0 where
   pub session : sessionAt u place ≡ s
   pub others : (i : ℕ) → (i ≡ place → ⊥) → sessionAt u i ≡ sessionAt t i
@@ -95,10 +96,11 @@ newcomer address draw port id owner t =
       playing = 0;
     }
 
--- a query merged into a stream: into a new one, on the frontend that it takes; into the one that a session is on; and only "for the owner"
+-- a stream with the query merged into it
 abbrev pub queried : Stream → Asked → Lists → Stream
 queried m a l = mergeOf m (a .codes) (l .pids) (l .delpids) (l .addpids) .stream
 
+-- the stream of a session after its query, which is merged "for the owner"
 abbrev pub tuned : SatBox → Asked → Lists → Session → Stream
 tuned t a l s = cond (eqb (s .owner) 0) (streamOf t (s .stream)) (queried (streamOf t (s .stream)) a l)
 
@@ -236,7 +238,7 @@ module _ (s : List ℕ) (address draw : ℕ) (t : SatBox) where
     does : {m : Method} → methodOf s ≡ m → u ≡ grant m t a l (clientOf address draw a) .did .satbox
     does e = granted-by (λ x. x .did .satbox ≡ grant (a .method) t a l (clientOf address draw a) .did .satbox) (λ p q. refl) ∙ ap (λ m. grant m t a l (clientOf address draw a) .did .satbox) e
 
-    -- OPTIONS NAMING A SESSION sets its last time to the clock, and nothing else of it
+    -- OPTIONS NAMING A SESSION sets its last time to the clock; the rest of it stays, and its stream
     pub options-refreshes : methodOf s ≡ Options → place < 32 → Quietly t u place (but (t .clock) (old .port) (old .playing) old) (old .stream) (streamOf t (old .stream))
     unfolding sightOf
     options-refreshes e h = rw (does e, lt-ltb place 32 h) (replaced-quietly t w h _ (old .stream))
