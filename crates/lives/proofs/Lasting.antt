@@ -40,7 +40,8 @@ use Rattle.lives.specs.Causes.{takes, saysClosed, unnumbered, sweepClosi
 use Rattle.lives.specs.Closed.{placeNamedBy, Sweeps, in-request, in-tick, Stays, TearsDown, in-teardown, Ends, expired, ownerless, torn}
 use Rattle.lives.proofs.Requests.{Kin, Retuned, retuned-same, answered-holds}
 use Rattle.lives.proofs.Seating.{place-free}
-use Rattle.lives.proofs.Causes.{one-owner, closing-took, swept-text, stays-seat, stays-row}
+use Rattle.lives.proofs.Taking.{one-owner, closing-took}
+use Rattle.lives.proofs.Visits.{swept-text, stays-seat, stays-row}
 use Rattle.lives.proofs.Teardowns.{answered-torn}
 
 -- A SWEEP

@@ -7,7 +7,8 @@ pub mod Running
 pub mod Refusals
 pub mod Rooms
 pub mod Fates
-pub mod Causes
+pub mod Taking
+pub mod Visits
 pub mod Sweeps
 pub mod Young
 pub mod Hearing

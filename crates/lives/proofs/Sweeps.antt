@@ -14,7 +14,8 @@ use Rattle.closings.specs.Closing.{isExpired, swept}
 use Rattle.closings.proofs.Keeping.{Whole}
 use Rattle.lives.specs.Closed.{Closed}
 use Rattle.lives.proofs.Fates.{Fate, stays, leaves, Fates, noted-as, upto-fates}
-use Rattle.lives.proofs.Causes.{takes-self, takes-on, swept-gone}
+use Rattle.lives.proofs.Taking.{takes-self, takes-on}
+use Rattle.lives.proofs.Visits.{swept-gone}
 
 -- an open session whose place is free afterwards is closed
 pub freed-closed : (t : SatBox) (d : Did) → Fates t d → (i : ℕ) → (sessionAt t i .number ≡ 0 → ⊥) → sessionAt (d .satbox) i ≡ noSession → Closed t i (d .satbox) (d .records)

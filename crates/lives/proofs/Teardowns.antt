@@ -25,7 +25,7 @@ use Rattle.promises.proofs.Records.{closed-is}
 use Rattle.lives.specs.Causes.{takes}
 use Rattle.lives.specs.Closed.{Closed, placeNamedBy}
 use Rattle.lives.proofs.Fates.{closing-fates}
-use Rattle.lives.proofs.Causes.{takes-self, takes-on, closing-took}
+use Rattle.lives.proofs.Taking.{takes-self, takes-on, closing-took}
 use Rattle.lives.proofs.Sweeps.{freed-closed}
 
 -- what it does

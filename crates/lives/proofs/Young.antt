@@ -35,7 +35,7 @@ use Rattle.lives.proofs.Holding.{Good, born-good}
 use Rattle.lives.proofs.Running.{live-good}
 use Rattle.lives.proofs.ReadingBack.{free-place}
 use Rattle.lives.proofs.Fates.{aged-after, closing-fates}
-use Rattle.lives.proofs.Causes.{none-expired}
+use Rattle.lives.proofs.Visits.{none-expired}
 
 -- at a clock nothing that is open in the table has expired
 abbrev pub Young : ℕ → SatBox → Type 0

@@ -35,10 +35,11 @@ unfoldable pub inOrder : (ℕ → List Record) → ℕ → List Record
 inOrder f zero = []
 inOrder f (suc n) = inOrder f n ++ f n
 
--- the session at place i closes for a cause, and each other of `along` "closes directly after with cause 3, in place order"
+-- the session at place i closes for a cause;
 abbrev pub closingOf : ℕ → SatBox → ℕ → Record
 closingOf cause t i = unnumbered (recordOf 3 cause (sessionAt t i) t)
 
+-- and each other of `along` "closes directly after with cause 3, in place order"
 abbrev pub closingsAt : ℕ → SatBox → ℕ → (ℕ → Bool) → List Record
 closingsAt cause t i along = closingOf cause t i ∷ inOrder (λ k. cond (along k && not (eqb k i)) (closingOf 3 t k ∷ []) []) 32
 
