@@ -280,23 +280,8 @@ closings-close-due κs a x y v w p q = (one (p .satbox) (q .satbox), λ i. (tt, 
 pub serving-deny : Unique serving.deny.ended serving.deny.Reads.Post
 serving-deny κs a x y v w = same
 
-pub serving-case-of : Unique serving.case_of.ended serving.case_of.Reads.Post
-serving-case-of κs a x y v w = same
-
-pub serving-opens : Unique serving.opens.ended serving.opens.Reads.Post
-serving-opens κs a x y v w = same
-
-pub serving-merges : Unique serving.merges.ended serving.merges.Reads.Post
-serving-merges κs a x y v w = same
-
-pub serving-unmerged : Unique serving.unmerged.ended serving.unmerged.Reads.Post
-serving-unmerged κs a x y v w = same
-
 pub serving-turn-of : Unique serving.turn_of.ended serving.turn_of.Reads.Post
 serving-turn-of κs a x y v w = same
-
-pub serving-nothing : Unique serving.nothing.ended serving.nothing.Reads.Post
-serving-nothing κs a x y v w = same
 
 pub serving-offer-of : Unique serving.offer_of.ended serving.offer_of.Reads.Post
 serving-offer-of κs a x y v w = same

@@ -39,9 +39,6 @@ use Rattle.serving.specs.declared.opening.Offer.{Offer}
 use Rattle.serving.specs.declared.Turn.{Turn}
 
 -- WHAT AN OPENING WOULD TAKE: on a new stream, or on the one that is named
-abbrev pub noOffer : Offer
-noOffer = record { seat = noSession; place = 32; feed = 0; whole = false }
-
 abbrev pub guestOf : Client → ℕ → ℕ → ℕ → ℕ → Session
 guestOf client number clock id owner =
     record {

@@ -4,11 +4,10 @@ mod opening;
 
 pub use opening::Client;
 pub use opening::Offer;
-pub use opening::nothing;
 pub use opening::offer_of;
 ghost use mathlib.Core.Path.{_≡_};
 ghost use Rattle.serving.specs.Serving.{refreshed, atPort, playing, after};
-ghost use Rattle.serving.specs.Turns.{deniedAs, reseatedAs, seatedAs, leftAs, openedBy, retunedBy, setUpBy, turnBy, firstCase, opensNow, mergesNow, unmergedBy};
+ghost use Rattle.serving.specs.Turns.{deniedAs, reseatedAs, seatedAs, leftAs, openedBy, retunedBy, setUpBy, turnBy};
 use aim::Method;
 use steps::Case;
 use steps::Sight;
@@ -193,62 +192,6 @@ fn set_up(v: Sight, change: Change, o: Offer) -> Turn
         return open_stream(change, o);
     }
     seat(o, 2, 0, Stream::NONE)
-}
-
-// The first of steps 1 to 15 that refuses, of which those to 10 were read.
-pub fn case_of(refusal: aim::Refusal, v: Sight) -> Case
-    ensures { λ c. ⌜ c ≡ firstCase refusal v ⌝ }
-{
-    if !aim::is_passed(refusal) {
-        return Case::Reading(refusal);
-    }
-    steps::case_of(v)
-}
-
-// Whether a request that went through those asks for a session to be opened.
-pub fn opens(case: Case, v: Sight) -> bool
-    ensures { λ b. ⌜ b ≡ opensNow case v ⌝ }
-{
-    if !steps::is_passed(case) {
-        return false;
-    }
-    let method = v.method;
-    match method {
-        Method::Options => false,
-        Method::Setup => !(v.place < SatBox::SESSIONS),
-        Method::Play => false,
-        Method::Teardown => false,
-        Method::Other => false,
-    }
-}
-
-// Whether its query is merged into a stream: a new one's, and its owner's.
-pub fn merges(case: Case, v: Sight) -> bool
-    ensures { λ b. ⌜ b ≡ mergesNow case v ⌝ }
-{
-    if !steps::is_passed(case) {
-        return false;
-    }
-    let session = v.session;
-    let takes = (v.stream == 0) | table::owns(session, v.stream);
-    let method = v.method;
-    match method {
-        Method::Options => false,
-        Method::Setup => takes,
-        Method::Play => takes,
-        Method::Teardown => false,
-        Method::Other => false,
-    }
-}
-
-// Into which one: a new one, or the stream m that it names.
-pub fn unmerged(v: Sight, m: Stream, o: Offer) -> Stream
-    ensures { λ r. ⌜ r ≡ unmergedBy v m o ⌝ }
-{
-    if v.stream == 0 {
-        return Stream::blank(o.feed);
-    }
-    m
 }
 
 // What a request comes to: `change` is what its query was merged to, o what an opening would take.
