@@ -15,10 +15,10 @@ use Rattle.scan.proofs.Parts.{all-same, holds-nothing, holds-length}
 use Rattle.target.specs.Uri.{isUri, hasQuery, queryOf, UriIs}
 use Rattle.target.specs.declared.Uri.{Uri}
 use Rattle.aim.specs.Query.{isQuery, areWithin, textOf, nowhere, QueryIs}
-use Rattle.aim.specs.Refusals.{_refuses_or_, isPassed}
+use Rattle.refusals.specs.Refusals.{_refuses_or_, isPassed}
 use Rattle.aim.specs.Aim.{takesNoQuery, isNumber, hasStream, lacksStream, judged, uriRefusal, Reached, refusedAim, verdictOf, isSpan, AimIs}
-use Rattle.aim.specs.declared.refusals.Refusal.{Refusal}
-use Rattle.aim.specs.declared.refusals.Refusal.the-variants.{Passed, UriLong, UriForm, QueryUntaken, QueryForm, NoStream}
+use Rattle.refusals.specs.declared.Refusal.{Refusal}
+use Rattle.refusals.specs.declared.Refusal.the-variants.{Passed, UriLong, UriForm, QueryUntaken, QueryForm, NoStream}
 use Rattle.aim.specs.declared.Method.{Method}
 use Rattle.aim.specs.declared.Aim.{Aim}
 use Rattle.aim.specs.declared.query.Query.{Query}

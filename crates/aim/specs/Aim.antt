@@ -12,10 +12,10 @@ use Rattle.digits.specs.declared.Read.the-variants.{Value as Number, Nothing}
 use Rattle.target.specs.Uri.{isUri, streamOf, hostOf, question, hasQuery, queryOf, UriIs}
 use Rattle.target.specs.declared.Uri.{Uri}
 use Rattle.aim.specs.Query.{isQuery, areWithin, codeOf, textOf, startOf, nowhere}
-use Rattle.aim.specs.Refusals.{_refuses_or_, isPassed}
-use Rattle.aim.specs.declared.refusals.Refusal.{Refusal}
-use Rattle.aim.specs.declared.refusals.Refusal.the-variants.{Passed, UriLong, UriForm, QueryUntaken, QueryForm, PidsClash, PidsUnstreamed, NoStream}
-use Rattle.aim.specs.declared.refusals.Refusal.the-variants.{Value as Outside}
+use Rattle.refusals.specs.Refusals.{_refuses_or_, isPassed}
+use Rattle.refusals.specs.declared.Refusal.{Refusal}
+use Rattle.refusals.specs.declared.Refusal.the-variants.{Passed, UriLong, UriForm, QueryUntaken, QueryForm, PidsClash, PidsUnstreamed, NoStream}
+use Rattle.refusals.specs.declared.Refusal.the-variants.{Value as Outside}
 use Rattle.aim.specs.declared.Method.{Method}
 use Rattle.aim.specs.declared.Method.the-variants.{Options, Setup, Play, Teardown, Other}
 use Rattle.aim.specs.declared.Aim.{Aim}

@@ -1,3 +1,2 @@
 pub mod Query
-pub mod Refusals
 pub mod Aim

@@ -1,16 +1,12 @@
 // What a request's URI asks: steps 7 to 10. Its bytes are looked at as `target` and `query` say, and no byte is copied.
 mod query;
-mod refusals;
 
-pub use refusals::Refusal;
-pub use refusals::is_passed;
-pub use refusals::status;
-pub use refusals::step;
 ghost use mathlib.Core.Path.{_≡_};
 ghost use mathlib.Core.Bool.{true, false};
 ghost use lib.ListN.{length};
 ghost use Rattle.aim.specs.Aim.{takesNoQuery, lacksStream, judged, isSpan, verdictOf, Reached, refusedAim, AimIs};
 use query::Query;
+use refusals::Refusal;
 use scan::Span;
 use target::Uri;
 
@@ -139,7 +135,7 @@ fn asked(method: Method, u: &[u8], uri: Uri, frontends: u8) -> Aim
         return refused(Refusal::QueryForm);
     }
     let v = verdict(method, uri.stream != 0, q);
-    if !is_passed(v) {
+    if !refusals::is_passed(v) {
         return refused(v);
     }
     let codes = q.codes;

@@ -9,11 +9,11 @@ use lib.Dec.{eqb}
 use lib.ListN.{length, length-append}
 use Rattle.scan.specs.Text.{text, _&_}
 use Rattle.scan.proofs.Bools.{cond-keeps}
-use Rattle.digits.specs.Writing.{decimal, dotted}
+use Rattle.writing.specs.Writing.{decimal, dotted}
 use Rattle.digits.specs.declared.Read.{Read}
 use Rattle.digits.specs.declared.Read.the-variants.{Value, Nothing}
 use Rattle.digits.proofs.Limits.{Is-read}
-use Rattle.digits.proofs.Numerals.{decimal-length, hex8-length, dotted-length}
+use Rattle.writing.proofs.Numerals.{decimal-length, hex8-length, dotted-length}
 use Rattle.answer.specs.Lines.{_says_or_, reasonOf, statusLine, numbered, cseqLine, sessionLine, publicLine, unsupportedLine, transportStart, portsText, transportLine, streamLine, rtpInfoLine}
 use Rattle.answer.specs.Answers.{optionsLines, setupLines, playLines, linesBy, linesOf, answerWith}
 use Rattle.answer.specs.declared.Kind.{Kind}

@@ -8,7 +8,7 @@ use lib.ListN.{length}
 use Rattle.scan.specs.Text.{text, _&_}
 use Rattle.scan.specs.Lists.{part}
 use Rattle.scan.specs.declared.Span.{Span}
-use Rattle.digits.specs.Writing.{decimal, hex8, dotted}
+use Rattle.writing.specs.Writing.{decimal, hex8, dotted}
 use Rattle.digits.specs.declared.Read.{Read}
 use Rattle.digits.specs.declared.Read.the-variants.{Value, Nothing}
 

@@ -3,7 +3,7 @@ use mathlib.Core.Path.{_≡_, refl}
 use mathlib.Core.List.{[]}
 use Prim.Native.Nat.{ℕ}
 use Rattle.scan.specs.Text.{text, _&_}
-use Rattle.digits.specs.Writing.{decimal, hex8, dotted, width, numeral}
+use Rattle.writing.specs.Writing.{decimal, hex8, dotted, width, numeral}
 use Rattle.digits.specs.declared.Read.the-variants.{Value}
 use Rattle.answer.specs.Lines.{reasonOf, textAt}
 use Rattle.answer.specs.Answers.{answerText}

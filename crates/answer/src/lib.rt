@@ -2,7 +2,7 @@
 // byte is written once, and nothing is copied but a host and a Require value, from where they stand in the request.
 mod puts;
 
-ghost use Rattle.digits.specs.Wrote.{Wrote};
+ghost use Rattle.writing.specs.Wrote.{Wrote};
 ghost use Rattle.answer.specs.Lines.{textAt};
 ghost use Rattle.answer.specs.Answers.{optionsLines, setupLines, playLines, linesOf, answerText};
 use digits::Read;
@@ -73,7 +73,7 @@ fn put_lines(buf: &mut [u8], at: usize, a: Answer, request: &[u8]) -> usize
 {
     let kind = a.kind;
     match kind {
-        Kind::Bare => digits::put(buf, at, b""),
+        Kind::Bare => writing::put(buf, at, b""),
         Kind::Allow => put_allow(buf, at),
         Kind::Public => put_public(buf, at),
         Kind::Unsupported => put_unsupported(buf, at, request, a.text),
@@ -92,5 +92,5 @@ pub fn write(buf: &mut [u8], a: Answer, request: &[u8]) -> usize
     let n = put_status(buf, 0, a.status);
     let m = put_cseq(buf, n, cseq);
     let k = put_lines(buf, m, a, request);
-    digits::put(buf, k, b"\r\n")
+    writing::put(buf, k, b"\r\n")
 }

@@ -1,5 +1,5 @@
 // The lines of an answer, one function each; each ends in CR LF.
-ghost use Rattle.digits.specs.Wrote.{Wrote};
+ghost use Rattle.writing.specs.Wrote.{Wrote};
 ghost use Rattle.answer.specs.Lines.{textAt, reasonFrom501, reasonFrom454, reasonOf, statusLine, cseqLine, sessionLine, publicLine, allowLine, unsupportedLine, transportStart, portsText, transportLine, streamLine, rtpInfoLine};
 use digits::Read;
 use scan::Span;
@@ -8,11 +8,11 @@ fn put_reason_from_501(buf: &mut [u8], at: usize, status: u32) -> usize
     ensures { λ r. ⌜ Wrote (now (buf .entry)) at (reasonFrom501 status) (now (buf .exit)) r ⌝ }
 {
     match status {
-        501 => digits::put(buf, at, b"Not Implemented"),
-        503 => digits::put(buf, at, b"Service Unavailable"),
-        505 => digits::put(buf, at, b"RTSP Version Not Supported"),
-        551 => digits::put(buf, at, b"Option Not Supported"),
-        _ => digits::put(buf, at, b""),
+        501 => writing::put(buf, at, b"Not Implemented"),
+        503 => writing::put(buf, at, b"Service Unavailable"),
+        505 => writing::put(buf, at, b"RTSP Version Not Supported"),
+        551 => writing::put(buf, at, b"Option Not Supported"),
+        _ => writing::put(buf, at, b""),
     }
 }
 
@@ -20,9 +20,9 @@ fn put_reason_from_454(buf: &mut [u8], at: usize, status: u32) -> usize
     ensures { λ r. ⌜ Wrote (now (buf .entry)) at (reasonFrom454 status) (now (buf .exit)) r ⌝ }
 {
     match status {
-        454 => digits::put(buf, at, b"Session Not Found"),
-        455 => digits::put(buf, at, b"Method Not Valid in This State"),
-        461 => digits::put(buf, at, b"Unsupported Transport"),
+        454 => writing::put(buf, at, b"Session Not Found"),
+        455 => writing::put(buf, at, b"Method Not Valid in This State"),
+        461 => writing::put(buf, at, b"Unsupported Transport"),
         _ => put_reason_from_501(buf, at, status),
     }
 }
@@ -32,12 +32,12 @@ fn put_reason(buf: &mut [u8], at: usize, status: u32) -> usize
     ensures { λ r. ⌜ Wrote (now (buf .entry)) at (reasonOf status) (now (buf .exit)) r ⌝ }
 {
     match status {
-        200 => digits::put(buf, at, b"OK"),
-        400 => digits::put(buf, at, b"Bad Request"),
-        403 => digits::put(buf, at, b"Forbidden"),
-        404 => digits::put(buf, at, b"Not Found"),
-        405 => digits::put(buf, at, b"Method Not Allowed"),
-        414 => digits::put(buf, at, b"Request-URI Too Long"),
+        200 => writing::put(buf, at, b"OK"),
+        400 => writing::put(buf, at, b"Bad Request"),
+        403 => writing::put(buf, at, b"Forbidden"),
+        404 => writing::put(buf, at, b"Not Found"),
+        405 => writing::put(buf, at, b"Method Not Allowed"),
+        414 => writing::put(buf, at, b"Request-URI Too Long"),
         _ => put_reason_from_454(buf, at, status),
     }
 }
@@ -45,11 +45,11 @@ fn put_reason(buf: &mut [u8], at: usize, status: u32) -> usize
 pub(crate) fn put_status(buf: &mut [u8], at: usize, status: u32) -> usize
     ensures { λ r. ⌜ Wrote (now (buf .entry)) at (statusLine status) (now (buf .exit)) r ⌝ }
 {
-    let n = digits::put(buf, at, b"RTSP/1.0 ");
-    let m = digits::put_decimal(buf, n, status);
-    let k = digits::put(buf, m, b" ");
+    let n = writing::put(buf, at, b"RTSP/1.0 ");
+    let m = writing::put_decimal(buf, n, status);
+    let k = writing::put(buf, m, b" ");
     let l = put_reason(buf, k, status);
-    digits::put(buf, l, b"\r\n")
+    writing::put(buf, l, b"\r\n")
 }
 
 // The CSeq of a request that has one.
@@ -58,7 +58,7 @@ pub(crate) fn put_cseq(buf: &mut [u8], at: usize, cseq: Read) -> usize
 {
     match cseq {
         Read::Value(v) => put_numbered(buf, at, b"CSeq: ", v),
-        Read::Nothing => digits::put(buf, at, b""),
+        Read::Nothing => writing::put(buf, at, b""),
     }
 }
 
@@ -66,30 +66,30 @@ pub(crate) fn put_cseq(buf: &mut [u8], at: usize, cseq: Read) -> usize
 fn put_numbered(buf: &mut [u8], at: usize, name: &[u8], v: u32) -> usize
     ensures { λ r. ⌜ Wrote (now (buf .entry)) at (Rattle.answer.specs.Lines.numbered (now (name .entry)) v) (now (buf .exit)) r ⌝ }
 {
-    let n = digits::put(buf, at, name);
-    let m = digits::put_decimal(buf, n, v);
-    digits::put(buf, m, b"\r\n")
+    let n = writing::put(buf, at, name);
+    let m = writing::put_decimal(buf, n, v);
+    writing::put(buf, m, b"\r\n")
 }
 
 // A session's number, and how its line ends.
 pub(crate) fn put_session(buf: &mut [u8], at: usize, session: u32, end: &[u8]) -> usize
     ensures { λ r. ⌜ Wrote (now (buf .entry)) at (sessionLine session (now (end .entry))) (now (buf .exit)) r ⌝ }
 {
-    let n = digits::put(buf, at, b"Session: ");
-    let m = digits::put_hex(buf, n, session);
-    digits::put(buf, m, end)
+    let n = writing::put(buf, at, b"Session: ");
+    let m = writing::put_hex(buf, n, session);
+    writing::put(buf, m, end)
 }
 
 pub(crate) fn put_public(buf: &mut [u8], at: usize) -> usize
     ensures { λ r. ⌜ Wrote (now (buf .entry)) at publicLine (now (buf .exit)) r ⌝ }
 {
-    digits::put(buf, at, b"Public: OPTIONS, SETUP, PLAY, TEARDOWN\r\n")
+    writing::put(buf, at, b"Public: OPTIONS, SETUP, PLAY, TEARDOWN\r\n")
 }
 
 pub(crate) fn put_allow(buf: &mut [u8], at: usize) -> usize
     ensures { λ r. ⌜ Wrote (now (buf .entry)) at allowLine (now (buf .exit)) r ⌝ }
 {
-    digits::put(buf, at, b"Allow: OPTIONS\r\n")
+    writing::put(buf, at, b"Allow: OPTIONS\r\n")
 }
 
 // What stands at a place of the request; nothing where there is no such place.
@@ -99,28 +99,28 @@ fn put_part(buf: &mut [u8], at: usize, request: &[u8], place: Span) -> usize
     let start = place.start;
     let end = place.end;
     if end < start {
-        return digits::put(buf, at, b"");
+        return writing::put(buf, at, b"");
     }
     if request.len() < end {
-        return digits::put(buf, at, b"");
+        return writing::put(buf, at, b"");
     }
-    digits::put(buf, at, &request[start..end])
+    writing::put(buf, at, &request[start..end])
 }
 
 pub(crate) fn put_unsupported(buf: &mut [u8], at: usize, request: &[u8], value: Span) -> usize
     ensures { λ r. ⌜ Wrote (now (buf .entry)) at (unsupportedLine (textAt (now (request .entry)) value)) (now (buf .exit)) r ⌝ }
 {
-    let n = digits::put(buf, at, b"Unsupported: ");
+    let n = writing::put(buf, at, b"Unsupported: ");
     let m = put_part(buf, n, request, value);
-    digits::put(buf, m, b"\r\n")
+    writing::put(buf, m, b"\r\n")
 }
 
 fn put_destination(buf: &mut [u8], at: usize, address: u32) -> usize
     ensures { λ r. ⌜ Wrote (now (buf .entry)) at (transportStart address) (now (buf .exit)) r ⌝ }
 {
-    let n = digits::put(buf, at, b"Transport: RTP/AVP;unicast;destination=");
-    let m = digits::put_dotted(buf, n, address);
-    digits::put(buf, m, b";client_port=")
+    let n = writing::put(buf, at, b"Transport: RTP/AVP;unicast;destination=");
+    let m = writing::put_dotted(buf, n, address);
+    writing::put(buf, m, b";client_port=")
 }
 
 // The ports `a-b`.
@@ -128,7 +128,7 @@ fn put_ports(buf: &mut [u8], at: usize, port: u32) -> usize
     ensures { λ r. ⌜ Wrote (now (buf .entry)) at (portsText port) (now (buf .exit)) r ⌝ }
 {
     let second = std::num::wrapping_add_u32(port, 1);
-    let n = digits::put_decimal(buf, at, port);
+    let n = writing::put_decimal(buf, at, port);
     put_numbered(buf, n, b"-", second)
 }
 
@@ -154,7 +154,7 @@ pub(crate) fn put_rtp_info(
 ) -> usize
     ensures { λ r. ⌜ Wrote (now (buf .entry)) at (rtpInfoLine (textAt (now (request .entry)) host) stream) (now (buf .exit)) r ⌝ }
 {
-    let n = digits::put(buf, at, b"RTP-Info: url=rtsp://");
+    let n = writing::put(buf, at, b"RTP-Info: url=rtsp://");
     let m = put_part(buf, n, request, host);
     put_numbered(buf, m, b"/stream=", stream)
 }

@@ -1,5 +1,3 @@
 pub mod Spelling
-pub mod Writes
 pub mod Positions
-pub mod Numerals
 pub mod Limits

@@ -1,4 +1,2 @@
 pub mod Positional
 pub mod Reading
-pub mod Writing
-pub mod Wrote

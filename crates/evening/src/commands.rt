@@ -20,7 +20,7 @@ fn show_journal(t: SatBox, journal: &[u8], line: &[u8]) -> SatBox {
 }
 
 fn command(t: SatBox, journal: &mut [u8], line: &[u8]) -> SatBox {
-    let place = scan::place_among(
+    let place = script::place_among(
         b"box ask lend tick collect order set spoil table journal",
         words::word(line, 0),
         Case::Counts,

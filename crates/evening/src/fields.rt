@@ -98,7 +98,7 @@ fn set_stream(t: SatBox, place: usize, field: usize, v: u32, entry: usize) -> Sa
 
 // Sets what a line names: the field, the place of the session or stream, the value, and of a PID its place in the list.
 pub(crate) fn set(t: SatBox, line: &[u8]) -> SatBox {
-    let field = scan::place_among(
+    let field = script::place_among(
         b"number address last port stream owner playing src freq pol msys mtype plts ro sr fec count frontend all pids size held clock sequence frontends",
         words::word(line, 1),
         Case::Counts,

@@ -8,7 +8,7 @@ pub(crate) fn text(s: &[u8]) {
 // A label and a number.
 pub(crate) fn number(label: &[u8], v: u32) {
     let mut digits = [0u8; 10];
-    let n = digits::put_decimal(&mut digits, 0, v);
+    let n = writing::put_decimal(&mut digits, 0, v);
     text(label);
     if n <= 10 {
         text(&digits[0..n]);
@@ -28,14 +28,14 @@ pub(crate) fn numbers(labels: &[u8], values: &[u32]) {
 
 pub(crate) fn hex(label: &[u8], v: u32) {
     let mut digits = [0u8; 8];
-    digits::put_hex(&mut digits, 0, v);
+    writing::put_hex(&mut digits, 0, v);
     text(label);
     text(&digits);
 }
 
 pub(crate) fn address(label: &[u8], v: u32) {
     let mut digits = [0u8; 15];
-    let n = digits::put_dotted(&mut digits, 0, v);
+    let n = writing::put_dotted(&mut digits, 0, v);
     text(label);
     if n <= 15 {
         text(&digits[0..n]);
@@ -53,7 +53,7 @@ fn digit(d: u8) -> u8 {
 // Puts a space and a byte's two hexadecimal digits.
 fn put_byte(buf: &mut [u8], at: usize, b: u8) -> usize {
     let shown = [b' ', digit(b / 16), digit(b % 16)];
-    digits::put(buf, at, &shown)
+    writing::put(buf, at, &shown)
 }
 
 // A line of up to sixteen bytes.

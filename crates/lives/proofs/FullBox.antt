@@ -6,7 +6,7 @@ use mathlib.Core.List.{List, [], _∷_, map}
 use native.Mathlib.Omega.{arith}
 use lib.ListN.{length, replicate}
 use borrow.Author.Tests.{eq-eqb}
-use Rattle.aim.specs.declared.refusals.Refusal.the-variants as refusal
+use Rattle.refusals.specs.declared.Refusal.the-variants as refusal
 use Rattle.reader.specs.Request.{requestRefusal}
 use Rattle.table.specs.Table.{opens}
 use Rattle.table.specs.declared.SatBox.{SatBox}

@@ -8,8 +8,8 @@ use native.Mathlib.Omega.{arith}
 use lib.ListN.{length, take, drop, length-append}
 use lib.Seq.{take-at, length-take-le}
 use Rattle.scan.specs.Lists.{all}
-use Rattle.digits.specs.Wrote.{written}
-use Rattle.digits.proofs.Writes.{written-length}
+use Rattle.writing.specs.Wrote.{written}
+use Rattle.writing.proofs.Writes.{written-length}
 use Rattle.journal.specs.Records.{isRecord}
 use Rattle.journal.specs.declared.Record.{Record}
 use Rattle.table.specs.Formed.{areSizes}

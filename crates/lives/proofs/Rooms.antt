@@ -10,7 +10,7 @@ use borrow.Author.Tests.{ne-eqb, eq-eqb, lt-leb, le-leb}
 use Rattle.scan.proofs.Bools.{never, and-both, by-cases, Same, same, other, sames}
 use Rattle.aim.specs.declared.Method.{Method}
 use Rattle.aim.specs.declared.Method.the-variants.{Options, Setup, Play, Teardown, Other}
-use Rattle.aim.specs.declared.refusals.Refusal.the-variants as refusal
+use Rattle.refusals.specs.declared.Refusal.the-variants as refusal
 use Rattle.reader.specs.Request.{requestRefusal}
 use Rattle.table.specs.Table.{opens, streamOf, isLive}
 use Rattle.table.specs.declared.SatBox.{SatBox}

@@ -24,12 +24,12 @@ use Rattle.target.specs.Uri.{UriIs}
 use Rattle.target.specs.declared.Parts.{Parts}
 use Rattle.target.specs.declared.Uri.{Uri}
 use Rattle.aim.specs.Query.{nowhere, codeFrom}
-use Rattle.aim.specs.Refusals.{stepOf, isPassed}
+use Rattle.refusals.specs.Refusals.{stepOf, isPassed}
 use Rattle.aim.specs.Aim.{AimIs}
 use Rattle.aim.specs.declared.Aim.{Aim}
 use Rattle.aim.specs.declared.Method.{Method as Methods}
-use Rattle.aim.specs.declared.refusals.Refusal.{Refusal}
-use Rattle.aim.specs.declared.refusals.Refusal.the-variants.{Passed, Layout, CSeq, RequestLine, HeaderTwice, Version, Require, Method, UriLong, UriForm, QueryUntaken, QueryForm, PidsClash, PidsUnstreamed, Value, NoStream}
+use Rattle.refusals.specs.declared.Refusal.{Refusal}
+use Rattle.refusals.specs.declared.Refusal.the-variants.{Passed, Layout, CSeq, RequestLine, HeaderTwice, Version, Require, Method, UriLong, UriForm, QueryUntaken, QueryForm, PidsClash, PidsUnstreamed, Value, NoStream}
 use Rattle.reader.specs.Request.{RequestIs, headRefusal}
 use Rattle.reader.specs.declared.Request.{Request}
 use Rattle.reader.proofs.RequestLaws.{passed-is}

@@ -13,9 +13,9 @@ use Rattle.target.specs.Uri.{hasQuery, queryOf}
 use Rattle.tuning.specs.Values.{valueOf}
 use Rattle.aim.specs.Query.{partsOf, attributeIn, valueIn, isWithin, areWithin, codeAmong, codeOf}
 use Rattle.aim.specs.Aim.{uriRefusal}
-use Rattle.aim.specs.Refusals.{isPassed}
-use Rattle.aim.specs.declared.refusals.Refusal.{Refusal}
-use Rattle.aim.specs.declared.refusals.Refusal.the-variants.{Passed}
+use Rattle.refusals.specs.Refusals.{isPassed}
+use Rattle.refusals.specs.declared.Refusal.{Refusal}
+use Rattle.refusals.specs.declared.Refusal.the-variants.{Passed}
 use Rattle.reader.specs.Request.{uriOf, requestRefusal}
 use Rattle.table.specs.Counts.{any}
 use Rattle.table.specs.Table.{has}

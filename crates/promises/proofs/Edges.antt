@@ -10,8 +10,8 @@ use borrow.Author.Tests.{le-leb, lt-leb}
 use Rattle.scan.specs.Text.{text, _&_}
 use Rattle.scan.specs.Words.{placeAmong}
 use Rattle.digits.specs.Reading.{readNumber, readHex8}
-use Rattle.digits.specs.Writing.{decimal, hex8, dotted, width, numeral}
-use Rattle.digits.specs.Wrote.{written}
+use Rattle.writing.specs.Writing.{decimal, hex8, dotted, width, numeral}
+use Rattle.writing.specs.Wrote.{written}
 use Rattle.lines.specs.Lines.{isLaidOut, requestLine, headerLines}
 use Rattle.tuning.specs.Attributes.{attributeOf}
 use Rattle.tuning.specs.Values.{valueOf, frequency, arePids}
@@ -19,8 +19,8 @@ use Rattle.target.specs.Uri.{isUri, streamIn}
 use Rattle.aim.specs.Query.{isQuery, areWithin, attributeIn, codeOf, textOf}
 use Rattle.aim.specs.Aim.{uriRefusal}
 use Rattle.aim.specs.declared.Method.the-variants.{Setup}
-use Rattle.aim.specs.declared.refusals.Refusal.{Refusal}
-use Rattle.aim.specs.declared.refusals.Refusal.the-variants.{Value as Outside}
+use Rattle.refusals.specs.declared.Refusal.{Refusal}
+use Rattle.refusals.specs.declared.Refusal.the-variants.{Value as Outside}
 use Rattle.reader.specs.Fields.{cseqFrom, sessionOf, sessionIn, transportOf}
 use Rattle.reader.specs.Request.{methodIn, cseqOf, headRefusal, requestRefusal}
 use Rattle.reader.specs.declared.fields.Session.the-variants.{Absent}

@@ -5,8 +5,8 @@ use mathlib.Core.Bool.{false}
 use mathlib.Core.List.{List, append-nil}
 use Prim.Native.Nat.{ℕ, _<_}
 use Rattle.scan.proofs.Bools.{cond-keeps}
-use Rattle.aim.specs.Refusals as reading
-use Rattle.aim.specs.declared.refusals.Refusal.the-variants as refusal
+use Rattle.refusals.specs.Refusals as reading
+use Rattle.refusals.specs.declared.Refusal.the-variants as refusal
 use Rattle.reader.specs.Request.{requestRefusal}
 use Rattle.reader.proofs.RequestLaws.{passed-is}
 use Rattle.table.specs.declared.SatBox.{SatBox}

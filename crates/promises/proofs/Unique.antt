@@ -12,12 +12,14 @@ use denote.Triple.Entry.{Args, Res}
 use denote.Triple.Clauses.{Ended, AtExit, Lasts, atExit}
 use Rattle.scan.proofs as scan
 use Rattle.digits.proofs as digits
-use Rattle.digits.specs.Wrote.{Wrote}
-use Rattle.digits.proofs.Writes.{wrote-one}
+use Rattle.writing.proofs as writing
+use Rattle.writing.specs.Wrote.{Wrote}
+use Rattle.writing.proofs.Writes.{wrote-one}
 use Rattle.journal.proofs as journal
 use Rattle.lines.proofs as lines
 use Rattle.tuning.proofs as tuning
 use Rattle.target.proofs as target
+use Rattle.refusals.proofs as refusals
 use Rattle.aim.proofs as aim
 use Rattle.reader.proofs as reader
 use Rattle.stream.proofs as stream
@@ -60,9 +62,6 @@ wrote : {B : Type 0} {b t d f : List ℕ} {at m n : ℕ} {u : B} → Wrote b at 
 wrote {u = u} p q = let e = wrote-one p q in (e .1, λ i. (e .0 i, u))
 
 -- SCAN
-pub scan-in-class : Unique scan.in_class.ended scan.in_class.Reads.Post
-scan-in-class κs a x y v w = same
-
 pub scan-first-in : Unique scan.first_in.ended scan.first_in.Reads.Post
 scan-first-in κs a x y v w p q = same (p .is) (q .is)
 
@@ -74,9 +73,6 @@ scan-all-in κs a x y v w = same
 
 pub scan-are-alike : Unique scan.are_alike.ended scan.are_alike.Reads.Post
 scan-are-alike κs a x y v w = same
-
-pub scan-place-among : Unique scan.place_among.ended scan.place_among.Reads.Post
-scan-place-among κs a x y v w = same
 
 pub scan-trimmed : Unique scan.trimmed.ended scan.trimmed.Reads.Post
 scan-trimmed κs a x y v w p q = (trimmed-same (a .0 .now) x y p q, refl)
@@ -94,17 +90,17 @@ digits-at-least κs a x y v w = same
 pub digits-is-value : Unique digits.is_value.ended digits.is_value.Reads.Post
 digits-is-value κs a x y v w = same
 
-pub digits-put : Unique digits.put.ended digits.put.Reads.Post
-digits-put κs a x y v w = wrote
+pub writing-put : Unique writing.put.ended writing.put.Reads.Post
+writing-put κs a x y v w = wrote
 
-pub digits-put-decimal : Unique digits.put_decimal.ended digits.put_decimal.Reads.Post
-digits-put-decimal κs a x y v w = wrote
+pub writing-put-decimal : Unique writing.put_decimal.ended writing.put_decimal.Reads.Post
+writing-put-decimal κs a x y v w = wrote
 
-pub digits-put-hex : Unique digits.put_hex.ended digits.put_hex.Reads.Post
-digits-put-hex κs a x y v w = wrote
+pub writing-put-hex : Unique writing.put_hex.ended writing.put_hex.Reads.Post
+writing-put-hex κs a x y v w = wrote
 
-pub digits-put-dotted : Unique digits.put_dotted.ended digits.put_dotted.Reads.Post
-digits-put-dotted κs a x y v w = wrote
+pub writing-put-dotted : Unique writing.put_dotted.ended writing.put_dotted.Reads.Post
+writing-put-dotted κs a x y v w = wrote
 
 -- JOURNAL
 pub journal-number : Unique journal.number.ended journal.number.Reads.Post
@@ -147,14 +143,14 @@ pub target-read-uri : Unique target.read_uri.ended target.read_uri.Reads.Post
 target-read-uri κs a x y v w p q = (uri-same (a .0 .now) x y p q, refl)
 
 -- AIM
-pub aim-step : Unique aim.step.ended aim.step.Reads.Post
-aim-step κs a x y v w = same
+pub refusals-step : Unique refusals.step.ended refusals.step.Reads.Post
+refusals-step κs a x y v w = same
 
-pub aim-status : Unique aim.status.ended aim.status.Reads.Post
-aim-status κs a x y v w = same
+pub refusals-status : Unique refusals.status.ended refusals.status.Reads.Post
+refusals-status κs a x y v w = same
 
-pub aim-is-passed : Unique aim.is_passed.ended aim.is_passed.Reads.Post
-aim-is-passed κs a x y v w = same
+pub refusals-is-passed : Unique refusals.is_passed.ended refusals.is_passed.Reads.Post
+refusals-is-passed κs a x y v w = same
 
 pub aim-read-aim : UniqueHeld aim.read_aim.ended aim.read_aim.Reads.Post
 aim-read-aim κs a x y v w m n i j p q =
@@ -235,12 +231,6 @@ pub answer-write : Unique answer.write.ended answer.write.Reads.Post
 answer-write κs a x y v w = wrote
 
 -- STEPS
-pub steps-step : Unique steps.step.ended steps.step.Reads.Post
-steps-step κs a x y v w = same
-
-pub steps-status : Unique steps.status.ended steps.status.Reads.Post
-steps-status κs a x y v w = same
-
 pub steps-is-passed : Unique steps.is_passed.ended steps.is_passed.Reads.Post
 steps-is-passed κs a x y v w = same
 

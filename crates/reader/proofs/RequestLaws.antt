@@ -29,12 +29,12 @@ use Rattle.target.specs.declared.Parts.{Parts}
 use Rattle.reader.specs.Fields.{cseqFrom, sessionOf, sessionIn, transportOf}
 use Rattle.reader.specs.Heads.{textAt, cseqAt, sessionAt, areTwice, Begun, Headed, Passing}
 use Rattle.aim.specs.Query.{nowhere}
-use Rattle.aim.specs.Refusals.{_refuses_or_, stepOf, isPassed}
+use Rattle.refusals.specs.Refusals.{_refuses_or_, stepOf, isPassed}
 use Rattle.reader.specs.Request.{methodIn, isOther, cseqOf, isTwice, methodOf, uriOf, uriStart, isVersion, headRefusal, requestRefusal, refusedRequest, RequestIs}
 use Rattle.aim.specs.Aim.{AimIs}
-use Rattle.aim.specs.declared.refusals.Refusal.{Refusal}
-use Rattle.aim.specs.declared.refusals.Refusal.the-variants.{Passed, Layout, CSeq, RequestLine, HeaderTwice, Version, Require, UriLong, UriForm, QueryUntaken, QueryForm, PidsClash, PidsUnstreamed, NoStream}
-use Rattle.aim.specs.declared.refusals.Refusal.the-variants.{Method as OtherMethod, Value as Outside}
+use Rattle.refusals.specs.declared.Refusal.{Refusal}
+use Rattle.refusals.specs.declared.Refusal.the-variants.{Passed, Layout, CSeq, RequestLine, HeaderTwice, Version, Require, UriLong, UriForm, QueryUntaken, QueryForm, PidsClash, PidsUnstreamed, NoStream}
+use Rattle.refusals.specs.declared.Refusal.the-variants.{Method as OtherMethod, Value as Outside}
 use Rattle.aim.specs.declared.Method.{Method}
 use Rattle.aim.specs.declared.Aim.{Aim}
 use Rattle.reader.specs.declared.Request.{Request}

@@ -20,7 +20,7 @@ use Rattle.target.specs.declared.Parts.{Parts}
 use Rattle.reader.specs.Fields.{sessionIn}
 use Rattle.target.specs.Uri.{streamOf, hostOf}
 use Rattle.aim.specs.Query.{nowhere}
-use Rattle.aim.specs.Refusals.{isPassed}
+use Rattle.refusals.specs.Refusals.{isPassed}
 use Rattle.reader.specs.Request.{cseqOf, isTwice, isVersion, methodOf, uriOf, uriStart, requestRefusal}
 use Rattle.aim.specs.Aim.{queryIn, queryStart, textIn, startIn, codeIn}
 use Rattle.aim.specs.declared.Method.{Method}

@@ -21,10 +21,10 @@ use Rattle.target.specs.Line.{isThree, linePart}
 use Rattle.target.specs.Uri.{streamOf, hostOf}
 use Rattle.reader.specs.Fields.{cseqFrom, sessionOf, transportOf}
 use Rattle.aim.specs.Query.{nowhere}
-use Rattle.aim.specs.Refusals.{_refuses_or_, isPassed, orElse}
-use Rattle.aim.specs.declared.refusals.Refusal.{Refusal}
-use Rattle.aim.specs.declared.refusals.Refusal.the-variants.{Passed, Layout, CSeq, RequestLine, HeaderTwice, Version, Require}
-use Rattle.aim.specs.declared.refusals.Refusal.the-variants.{Method as OtherMethod}
+use Rattle.refusals.specs.Refusals.{_refuses_or_, isPassed, orElse}
+use Rattle.refusals.specs.declared.Refusal.{Refusal}
+use Rattle.refusals.specs.declared.Refusal.the-variants.{Passed, Layout, CSeq, RequestLine, HeaderTwice, Version, Require}
+use Rattle.refusals.specs.declared.Refusal.the-variants.{Method as OtherMethod}
 use Rattle.aim.specs.declared.Method.{Method}
 use Rattle.aim.specs.declared.Method.the-variants.{Options, Setup, Play, Teardown, Other}
 use Rattle.reader.specs.declared.fields.Session.the-variants.{Absent}

@@ -14,8 +14,8 @@ use Rattle.tuning.specs.Values.{valueOf, frequency, arePids}
 use Rattle.target.specs.Uri.{isUri, streamIn, streamOf, hostOf}
 use Rattle.aim.specs.Query.{isQuery, areWithin, attributeIn, codeOf, textOf}
 use Rattle.aim.specs.Aim.{uriRefusal, codeIn, textIn}
-use Rattle.aim.specs.declared.refusals.Refusal.the-variants.{Passed, Layout, UriForm, QueryForm, PidsClash, NoStream}
-use Rattle.aim.specs.declared.refusals.Refusal.the-variants.{Method as OtherMethod, Value as Outside}
+use Rattle.refusals.specs.declared.Refusal.the-variants.{Passed, Layout, UriForm, QueryForm, PidsClash, NoStream}
+use Rattle.refusals.specs.declared.Refusal.the-variants.{Method as OtherMethod, Value as Outside}
 use Rattle.reader.specs.Fields.{cseqFrom, sessionOf, sessionIn, transportOf}
 use Rattle.reader.specs.Request.{methodIn, cseqOf, uriOf, headRefusal, requestRefusal}
 use Rattle.reader.specs.declared.fields.Session.{Session}

@@ -12,11 +12,11 @@ ghost use Rattle.reader.specs.Heads.{cseqAt, sessionAt, areTwice, Begun,
 ghost use Rattle.reader.specs.Request.{methodIn, isOther, refusedRequest, RequestIs};
 use aim::Aim;
 use aim::Method;
-use aim::Refusal;
 use digits::Read;
 use digits::Zeros;
 use lines::Lines;
 use lines::Seen;
+use refusals::Refusal;
 use scan::Case;
 use scan::Span;
 use target::Parts;
@@ -180,7 +180,7 @@ fn read_method(s: &[u8], l: Lines, cseq: Read, parts: Parts, frontends: u8) -> R
     let to = parts.second;
     let a = aim::read_aim(method, &line[from..to], frontends);
     let refusal = a.refusal;
-    if !aim::is_passed(refusal) {
+    if !refusals::is_passed(refusal) {
         return refuse(refusal, cseq, Span { start: 0, end: 0 });
     }
     passed(s, l, cseq, method, from, a, frontends)

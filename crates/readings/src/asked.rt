@@ -93,9 +93,9 @@ fn verdict(r: Request) {
     let refusal = r.refusal;
     let cseq = r.cseq;
     out::text(b" step ");
-    out::number(aim::step(refusal) as u32);
+    out::number(refusals::step(refusal) as u32);
     out::text(b" status ");
-    out::number(aim::status(refusal) as u32);
+    out::number(refusals::status(refusal) as u32);
     out::text(b" cseq ");
     out::read(cseq);
 }
@@ -111,7 +111,7 @@ pub(crate) fn request(s: &[u8]) {
     let r = reader::read(s, 2);
     let refusal = r.refusal;
     verdict(r);
-    match aim::step(refusal) {
+    match refusals::step(refusal) {
         0 => passed(s, r),
         5 => required(s, r),
         _ => {}

@@ -8,9 +8,9 @@ use lib.Dec.{eqb, ltb}
 use lib.ListN.{length, drop}
 use borrow.Author.Tests.{ltb-false, not-true}
 use Rattle.scan.proofs.Bools.{cond-keeps}
-use Rattle.digits.specs.Wrote.{Wrote, written}
-use Rattle.digits.proofs.Writes.{wrote-front, wrote-as}
-use Rattle.aim.specs.Refusals as reading
+use Rattle.writing.specs.Wrote.{Wrote, written}
+use Rattle.writing.proofs.Writes.{wrote-front, wrote-as}
+use Rattle.refusals.specs.Refusals as reading
 use Rattle.aim.specs.declared.Method.{Method}
 use Rattle.aim.specs.declared.Method.the-variants.{Options, Setup, Play, Teardown, Other}
 use Rattle.reader.specs.Request.{requestRefusal, RequestIs}

@@ -1,13 +1,11 @@
 // Looking at bytes: classes of bytes, the first byte of a class, two texts compared, outer spaces removed. Every function has an
-// answer for all bytes and all places. A call looks at a byte at most twice, `place_among` once for each word that is as long, and copies
-// none.
+// answer for all bytes and all places. A call looks at a byte at most twice, and copies none.
 ghost use mathlib.Core.Path.{_≡_};
 ghost use lib.Dec.{eqb};
 ghost use Rattle.scan.specs.Lists.{all, FirstOf, FirstFrom};
 ghost use Rattle.scan.specs.Classes.{isDigit, isCapital, isName, isText, inClass};
 ghost use Rattle.scan.specs.Compare.{seen, areAlike};
 ghost use Rattle.scan.specs.Trim.{Trimmed};
-ghost use Rattle.scan.specs.Words.{placeAmong};
 
 // A class of bytes, handed to a scan.
 pub enum Class {
@@ -54,7 +52,7 @@ fn is_text(b: u8) -> bool
 }
 
 // Whether a byte is of the class.
-pub fn in_class(c: Class, b: u8) -> bool
+fn in_class(c: Class, b: u8) -> bool
     ensures { λ r. ⌜ r ≡ inClass c b ⌝ }
 {
     match c {
@@ -213,23 +211,6 @@ pub fn are_alike(s: &[u8], t: &[u8], case: Case) -> bool
         }
     }
     true
-}
-
-// The place of a text among words that have a space between each two; how many words there are where it is none of them.
-pub fn place_among(words: &[u8], s: &[u8], case: Case) -> usize
-    ensures { λ r. ⌜ r ≡ placeAmong case (now (words .entry)) (now (s .entry)) ⌝ }
-{
-    let mut n = 0;
-    let mut p = 0;
-    while p <= words.len() {
-        let e = first_from(words, p, Class::Is(b' '));
-        if are_alike(&words[p..e], s, case) {
-            return n;
-        }
-        n += 1;
-        p = e + 1;
-    }
-    n
 }
 
 // A part of a slice, from start up to, not including, end.

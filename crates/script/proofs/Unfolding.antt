@@ -7,8 +7,8 @@ use native.Mathlib.Omega.{arith}
 use lib.ListN.{length, getD, take, replicate}
 use lib.Seq.{take-suc, take-all}
 use borrow.Author.Tests.{ne-eqb}
-use Rattle.digits.specs.Wrote.{Wrote}
-use Rattle.digits.proofs.Writes.{written-none, wrote-kept, wrote-as, _then_}
+use Rattle.writing.specs.Wrote.{Wrote}
+use Rattle.writing.proofs.Writes.{written-none, wrote-kept, wrote-as, _then_}
 use Rattle.script.specs.Lines.{standsFor, unfolded}
 
 -- what a byte stands for, put

@@ -1,8 +1,10 @@
 // The lines that the programs read from standard input, and the short form in which a line holds a request. Every function has an answer
-// for all bytes and all places, and looks at each byte at most once.
+// for all bytes and all places, and looks at each byte at most once, `place_among` once for each word that is as long.
 ghost use mathlib.Core.Path.{_≡_};
-ghost use Rattle.digits.specs.Wrote.{Wrote};
+ghost use Rattle.writing.specs.Wrote.{Wrote};
+ghost use Rattle.scan.specs.Words.{placeAmong};
 ghost use Rattle.script.specs.Lines.{lineAt, standsFor, unfolded};
+use scan::Case;
 use scan::Class;
 
 // The line that starts at a place, without its LF; an empty one where the text ends before it.
@@ -23,9 +25,9 @@ fn unfold_byte(buf: &mut [u8], at: usize, b: u8) -> usize
     let run = [b'a'; 100];
     let one = [b; 1];
     match b {
-        b'|' => digits::put(buf, at, b"\r\n"),
-        b'^' => digits::put(buf, at, &run),
-        _ => digits::put(buf, at, &one),
+        b'|' => writing::put(buf, at, b"\r\n"),
+        b'^' => writing::put(buf, at, &run),
+        _ => writing::put(buf, at, &one),
     }
 }
 
@@ -41,4 +43,21 @@ pub fn unfold(buf: &mut [u8], s: &[u8]) -> usize
         i += 1;
     }
     at
+}
+
+// The place of a text among words that have a space between each two; how many words there are where it is none of them.
+pub fn place_among(words: &[u8], s: &[u8], case: Case) -> usize
+    ensures { λ r. ⌜ r ≡ placeAmong case (now (words .entry)) (now (s .entry)) ⌝ }
+{
+    let mut n = 0;
+    let mut p = 0;
+    while p <= words.len() {
+        let e = scan::first_from(words, p, Class::Is(b' '));
+        if scan::are_alike(&words[p..e], s, case) {
+            return n;
+        }
+        n += 1;
+        p = e + 1;
+    }
+    n
 }

@@ -6,10 +6,10 @@ use mathlib.Core.Bool.{Bool, true, false, not, cond, _&&_}
 use mathlib.Core.List.{List}
 use lib.Dec.{eqb, ltb}
 use lib.ListN.{length, getD}
-use Rattle.aim.specs.Refusals as reading
+use Rattle.refusals.specs.Refusals as reading
 use Rattle.aim.specs.declared.Method.{Method}
 use Rattle.aim.specs.declared.Method.the-variants.{Options, Setup, Play, Teardown, Other}
-use Rattle.aim.specs.declared.refusals.Refusal.{Refusal}
+use Rattle.refusals.specs.declared.Refusal.{Refusal}
 use Rattle.reader.specs.Request.{RequestIs}
 use Rattle.reader.specs.declared.Request.{Request}
 use Rattle.stream.specs.Streams.{noStream, blank}

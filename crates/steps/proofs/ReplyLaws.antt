@@ -23,11 +23,11 @@ use Rattle.target.specs.Line.{isThree}
 use Rattle.target.specs.Uri.{isUri, hostOf, hasQuery, queryOf}
 use Rattle.aim.specs.Query.{nowhere, isQuery, areWithin}
 use Rattle.aim.specs.Aim.{takesNoQuery, hasStream, isGiven, edits, lacksStream, uriRefusal}
-use Rattle.aim.specs.Refusals as reading
-use Rattle.aim.specs.Refusals.{_refuses_or_}
+use Rattle.refusals.specs.Refusals as reading
+use Rattle.refusals.specs.Refusals.{_refuses_or_}
 use Rattle.aim.specs.declared.Method.{Method}
-use Rattle.aim.specs.declared.refusals.Refusal.{Refusal}
-use Rattle.aim.specs.declared.refusals.Refusal.the-variants as refusal
+use Rattle.refusals.specs.declared.Refusal.{Refusal}
+use Rattle.refusals.specs.declared.Refusal.the-variants as refusal
 use Rattle.reader.specs.Fields.{cseqFrom}
 use Rattle.reader.specs.Request.{methodOf, uriOf, isOther, cseqOf, isTwice, isVersion, headRefusal, requestRefusal, RequestIs}
 use Rattle.reader.specs.declared.Request.{Request}

@@ -27,9 +27,9 @@ use Rattle.stream.specs.Pids.{isIn}
 use Rattle.stream.proofs.Fitting.{all-in, fit-of, read-ranged}
 use Rattle.aim.specs.Query.{partsOf, attributeIn, valueIn, codeFrom, codeAmong, codeOf}
 use Rattle.aim.specs.Aim.{queryIn, codeIn}
-use Rattle.aim.specs.Refusals.{_refuses_or_, stepOf}
-use Rattle.aim.specs.declared.refusals.Refusal.{Refusal}
-use Rattle.aim.specs.declared.refusals.Refusal.the-variants.{Passed, Layout}
+use Rattle.refusals.specs.Refusals.{_refuses_or_, stepOf}
+use Rattle.refusals.specs.declared.Refusal.{Refusal}
+use Rattle.refusals.specs.declared.Refusal.the-variants.{Passed, Layout}
 use Rattle.reader.specs.Fields.{transportOf, portsIn, portFrom, isPair, dash}
 use Rattle.reader.specs.declared.fields.Transport.{Transport}
 use Rattle.reader.specs.declared.fields.Transport.the-variants.{Other, Port}

@@ -2,8 +2,8 @@
 use Prim.Native.Nat.{ℕ}
 use lib.Dec.{eqb}
 use mathlib.Core.Bool.{Bool, true, false, not}
-use Rattle.aim.specs.Refusals as reading
-pub use Rattle.aim.specs.Refusals.{_refuses_or_}
+use Rattle.refusals.specs.Refusals as reading
+pub use Rattle.refusals.specs.Refusals.{_refuses_or_}
 use Rattle.steps.specs.declared.cases.Case.{Case}
 use Rattle.steps.specs.declared.cases.Case.the-variants.{Passed, Reading, NoSession, NotLive, State, NotOwner, Transport, Combination, TooManyPids, Full}
 

@@ -8,10 +8,10 @@ use Rattle.lines.specs.Lines.{headerLines}
 use Rattle.lines.specs.Headers.{valuesOf, firstValue}
 use Rattle.target.specs.Uri.{hostOf}
 use Rattle.aim.specs.Query.{nowhere}
-use Rattle.aim.specs.Refusals.{stepOf}
+use Rattle.refusals.specs.Refusals.{stepOf}
 use Rattle.aim.specs.declared.Method.{Method}
 use Rattle.aim.specs.declared.Method.the-variants.{Options, Setup, Play, Teardown, Other}
-use Rattle.aim.specs.declared.refusals.Refusal.{Refusal}
+use Rattle.refusals.specs.declared.Refusal.{Refusal}
 use Rattle.reader.specs.Request.{methodOf, uriOf, cseqOf}
 use Rattle.reader.specs.declared.Request.{Request}
 use Rattle.table.specs.declared.Session.{Session}

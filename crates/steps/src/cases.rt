@@ -1,7 +1,7 @@
 // Why a request is refused, over all of document 01's steps: each case with its step and its status.
 ghost use mathlib.Core.Path.{_≡_};
 ghost use Rattle.steps.specs.Cases.{stepOf, statusOf, isPassed};
-use aim::Refusal;
+use refusals::Refusal;
 
 pub enum Case {
     // Nothing refuses the request.
@@ -21,12 +21,12 @@ pub enum Case {
 }
 
 // Document 01's step, 0 where nothing refuses.
-pub fn step(case: Case) -> u8
+fn step(case: Case) -> u8
     ensures { λ r. ⌜ r ≡ stepOf case ⌝ }
 {
     match case {
         Case::Passed => 0,
-        Case::Reading(refusal) => aim::step(refusal),
+        Case::Reading(refusal) => refusals::step(refusal),
         Case::NoSession => 11,
         Case::NotLive => 12,
         Case::State => 13,
@@ -39,12 +39,12 @@ pub fn step(case: Case) -> u8
 }
 
 // The status that answers it, 200 where nothing refuses.
-pub fn status(case: Case) -> u16
+pub(crate) fn status(case: Case) -> u16
     ensures { λ r. ⌜ r ≡ statusOf case ⌝ }
 {
     match case {
         Case::Passed => 200,
-        Case::Reading(refusal) => aim::status(refusal),
+        Case::Reading(refusal) => refusals::status(refusal),
         Case::NoSession => 454,
         Case::NotLive => 404,
         Case::State => 455,

@@ -6,8 +6,6 @@ mod tests;
 
 pub use cases::Case;
 pub use cases::is_passed;
-pub use cases::status;
-pub use cases::step;
 pub use replies::answer_to;
 ghost use mathlib.Core.Path.{_≡_};
 ghost use Rattle.steps.specs.Asked.{askedBy};

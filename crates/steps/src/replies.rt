@@ -6,10 +6,10 @@ ghost use Rattle.steps.specs.Replies.{refusedKind, grantedKind, kindOf, 
 use crate::cases;
 use crate::cases::Case;
 use aim::Method;
-use aim::Refusal;
 use answer::Answer;
 use answer::Kind;
 use reader::Request;
+use refusals::Refusal;
 use scan::Span;
 use table::Session;
 
@@ -17,7 +17,7 @@ use table::Session;
 fn refused_kind(refusal: Refusal) -> Kind
     ensures { λ r. ⌜ r ≡ refusedKind refusal ⌝ }
 {
-    match aim::step(refusal) {
+    match refusals::step(refusal) {
         5 => Kind::Unsupported,
         6 => Kind::Public,
         10 => Kind::Allow,

@@ -13,25 +13,25 @@ fn show(buf: &[u8], next: usize) {
 
 fn put(at: usize, t: &[u8]) {
     let mut buf = [b'.'; 8];
-    let next = digits::put(&mut buf, at, t);
+    let next = writing::put(&mut buf, at, t);
     show(&buf, next);
 }
 
 fn decimal(at: usize, v: u32) {
     let mut buf = [b'.'; 12];
-    let next = digits::put_decimal(&mut buf, at, v);
+    let next = writing::put_decimal(&mut buf, at, v);
     show(&buf, next);
 }
 
 fn hex(at: usize, v: u32) {
     let mut buf = [b'.'; 10];
-    let next = digits::put_hex(&mut buf, at, v);
+    let next = writing::put_hex(&mut buf, at, v);
     show(&buf, next);
 }
 
 fn dotted(at: usize, address: u32) {
     let mut buf = [b'.'; 16];
-    let next = digits::put_dotted(&mut buf, at, address);
+    let next = writing::put_dotted(&mut buf, at, address);
     show(&buf, next);
 }
 

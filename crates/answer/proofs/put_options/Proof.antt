@@ -1,7 +1,7 @@
 -- `answer::put_options` meets its contract. Assumes nothing.
 use borrow.Author.Needs.{needs}
 use borrow.Author.Tests.{eq-eqb, ne-eqb}
-use Rattle.digits.proofs.Writes.{_then_}
+use Rattle.writing.proofs.Writes.{_then_}
 use Rattle.answer.proofs.put_options.Statement.{statement}
 use Rattle.answer.proofs.put_options.Tie as tie
 

@@ -1,6 +1,6 @@
 -- `answer::write` meets its contract. Assumes nothing.
 use borrow.Author.Needs.{needs}
-use Rattle.digits.proofs.Writes.{_then_}
+use Rattle.writing.proofs.Writes.{_then_}
 use Rattle.answer.proofs.write.Statement.{statement}
 use Rattle.answer.proofs.write.Tie as tie
 

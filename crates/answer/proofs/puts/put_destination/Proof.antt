@@ -1,6 +1,6 @@
 -- `answer::puts::put_destination` meets its contract. Assumes nothing.
 use borrow.Author.Needs.{needs}
-use Rattle.digits.proofs.Writes.{_then_}
+use Rattle.writing.proofs.Writes.{_then_}
 use Rattle.answer.proofs.puts.put_destination.Statement.{statement}
 use Rattle.answer.proofs.puts.put_destination.Tie as tie
 

@@ -2,7 +2,7 @@
 use mathlib.Core.Path.{ap}
 use borrow.Author.Needs.{needs}
 use Rattle.scan.specs.Text.{text}
-use Rattle.digits.proofs.Writes.{_then_, wrote-as}
+use Rattle.writing.proofs.Writes.{_then_, wrote-as}
 use Rattle.answer.specs.Lines.{numbered}
 use Rattle.answer.proofs.puts.put_ports.Statement.{statement}
 use Rattle.answer.proofs.puts.put_ports.Tie as tie

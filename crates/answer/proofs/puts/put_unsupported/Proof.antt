@@ -1,6 +1,6 @@
 -- `answer::puts::put_unsupported` meets its contract. Assumes nothing.
 use borrow.Author.Needs.{needs}
-use Rattle.digits.proofs.Writes.{_then_}
+use Rattle.writing.proofs.Writes.{_then_}
 use Rattle.answer.proofs.puts.put_unsupported.Statement.{statement}
 use Rattle.answer.proofs.puts.put_unsupported.Tie as tie
 

@@ -1,9 +1,0 @@
--- `digits::put_decimal` meets its contract. Assumes nothing.
-use borrow.Author.Needs.{needs}
-use Rattle.digits.proofs.Numerals.{wrote-decimal}
-use Rattle.digits.proofs.put_decimal.Statement.{statement}
-use Rattle.digits.proofs.put_decimal.Tie as tie
-
-pub put-decimal-spec : {M : Type 1} → statement M
-put-decimal-spec =
-    tie.close (tie.spec (λ c κs. search needs) (λ c κs. search needs) (λ c. search needs) (λ c. search wrote-decimal))

@@ -1,0 +1,17 @@
+-- `digits::shown_digit` meets its contract. Assumes nothing.
+use borrow.Author.Needs.{needs}
+use borrow.Author.Tests.{lt-ltb, le-ltb}
+use Rattle.writing.proofs.shown_digit.Statement.{statement}
+use Rattle.writing.proofs.shown_digit.Tie as tie
+
+pub shown-digit-spec : {M : Type 1} → statement M
+shown-digit-spec =
+    tie.close
+    (tie.spec
+    (λ c. search needs)
+    (λ c. search needs)
+    (λ c. search needs)
+    (λ c. search needs)
+    (λ c. search needs)
+    (λ c. simp (lt-ltb _ _ (c .if1 .taken)))
+    (λ c. simp (le-ltb _ _ (c .if1 .left))))

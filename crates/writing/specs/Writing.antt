@@ -1,0 +1,36 @@
+-- Numbers as text. Assumes nothing.
+use Prim.Native.Nat.{ℕ, zero, suc, _+_, _/_}
+use mathlib.Core.Bool.{cond}
+use mathlib.Core.List.{List, map}
+use lib.Dec.{ltb}
+use Rattle.scan.specs.Cut.{joined}
+use Rattle.digits.specs.Positional.{digitsIn}
+
+-- the byte that shows a digit: 0 to 9, then A to F
+abbrev pub shown : ℕ → ℕ
+shown d = cond (ltb d 10) (48 + d) (55 + d)
+
+-- the last k digits of v in a base, as text
+unfoldable pub numeral : ℕ → ℕ → ℕ → List ℕ
+numeral base k v = map shown (digitsIn base k v)
+
+-- how many decimal digits v takes: one below 10, and else one more than its tenth. Only n more are looked for
+abbrev pub widthIn : ℕ → ℕ → ℕ
+widthIn zero v = 1
+widthIn (suc n) v = cond (ltb v 10) 1 (suc (widthIn n (v / 10)))
+
+-- twenty digits hold every number of 64 bits
+unfoldable pub width : ℕ → ℕ
+width v = widthIn 19 v
+
+-- decimal without leading zeros
+unfoldable pub decimal : ℕ → List ℕ
+decimal v = numeral 10 (width v) v
+
+-- "8 upper-case hex digits"
+unfoldable pub hex8 : ℕ → List ℕ
+hex8 v = numeral 16 8 v
+
+-- "dotted address": its four octets in decimal, the highest first, with dots between them
+unfoldable pub dotted : ℕ → List ℕ
+dotted a = joined 46 (map decimal (digitsIn 256 4 a))
