@@ -27,7 +27,7 @@ pub(crate) fn state(t: SatBox) {
     out::text(b",");
     out::numbers(
         b"clock sequence held open",
-        &[t.clock, t.sequence as u32, t.held, table::count_open(t)],
+        &[t.clock, t.sequence as u32, t.held, finding::count_open(t)],
     );
     out::text(b"\n");
 }

@@ -13,7 +13,7 @@ use Rattle.stream.specs.Streams.{pastStream}
 use Rattle.stream.specs.declared.Stream.{Stream}
 use Rattle.table.specs.Counts.{any, count}
 use Rattle.table.specs.Table.{noSession, has, isOpen, streamIn, isOn, owns}
-use Rattle.table.specs.Finding.{isHeld}
+use Rattle.finding.specs.Finding.{isHeld}
 use Rattle.table.specs.declared.Session.{Session}
 use Rattle.table.specs.declared.SatBox.{SatBox}
 use Rattle.table.proofs.Counts.{first-some, first-passes}

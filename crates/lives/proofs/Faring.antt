@@ -24,7 +24,7 @@ use Rattle.journal.specs.declared.Record.{Record}
 use Rattle.stream.specs.declared.Stream.{Stream}
 use Rattle.table.specs.Counts.{any}
 use Rattle.table.specs.Table.{noSession, has, isFree, isOpen, sessionAt, streamOf}
-use Rattle.table.specs.Finding.{lowestPlace}
+use Rattle.finding.specs.Finding.{lowestPlace}
 use Rattle.table.specs.declared.Session.{Session}
 use Rattle.table.specs.declared.SatBox.{SatBox}
 use Rattle.table.specs.declared.Outcome.{Outcome}

@@ -18,7 +18,7 @@ use Rattle.journal.specs.declared.Record.{Record}
 use Rattle.stream.specs.declared.Stream.{Stream}
 use Rattle.table.specs.Counts.{count}
 use Rattle.table.specs.Table.{noSession, has, isOpen, sessionAt, streamOf, isOn}
-use Rattle.table.specs.Finding.{lowestPlace, lowestId}
+use Rattle.finding.specs.Finding.{lowestPlace, lowestId}
 use Rattle.table.specs.declared.Session.{Session}
 use Rattle.table.specs.declared.SatBox.{SatBox}
 use Rattle.table.specs.declared.Outcome.{Outcome}

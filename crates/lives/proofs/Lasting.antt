@@ -17,7 +17,7 @@ use Rattle.stream.specs.Streams.{pastStream}
 use Rattle.stream.specs.declared.Stream.{Stream}
 use Rattle.table.specs.Counts.{any, count}
 use Rattle.table.specs.Table.{noSession, isOpen, sessionAt, owns}
-use Rattle.table.specs.Finding.{lowestPlace, lowestId}
+use Rattle.finding.specs.Finding.{lowestPlace, lowestId}
 use Rattle.table.specs.declared.Session.{Session}
 use Rattle.table.specs.declared.SatBox.{SatBox}
 use Rattle.table.specs.declared.Outcome.{Outcome}

@@ -18,7 +18,7 @@ use Rattle.journal.specs.declared.Reading.the-variants.{Sound}
 use Rattle.table.specs.Counts.{any}
 use Rattle.table.specs.Table.{isOpen, opens, sessionAt, isOn, owns}
 use Rattle.table.specs.Formed.{wellFormed}
-use Rattle.table.specs.Finding.{isHeld}
+use Rattle.finding.specs.Finding.{isHeld}
 use Rattle.table.specs.Made.{fresh}
 use Rattle.table.specs.declared.Session.{Session}
 use Rattle.table.specs.declared.SatBox.{SatBox}

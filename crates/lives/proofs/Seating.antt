@@ -15,12 +15,12 @@ use Rattle.stream.specs.Streams.{pastStream}
 use Rattle.stream.specs.declared.Stream.{Stream}
 use Rattle.table.specs.Counts.{any, count}
 use Rattle.table.specs.Table.{noSession, isFree, sessionAt, streamIn, streamOf, isDead, isOn}
-use Rattle.table.specs.Finding.{lowestPlace, lowestId}
+use Rattle.finding.specs.Finding.{lowestPlace, lowestId}
 use Rattle.table.specs.declared.Session.{Session}
 use Rattle.table.specs.declared.SatBox.{SatBox}
 use Rattle.table.proofs.Counts.{count-zero-at, first-passes}
 use Rattle.table.proofs.Rules.{fed}
-use Rattle.table.proofs.Draws.{drawn-nonzero}
+use Rattle.finding.proofs.Draws.{drawn-nonzero}
 use Rattle.closings.specs.Did.{restreamed, reseated, noting, recordOf}
 use Rattle.serving.specs.Opening.{hasPlace, guest, seating, canJoin, canOpen}
 use Rattle.serving.specs.declared.opening.Client.{Client}

@@ -4,7 +4,7 @@ use mathlib.Core.List.{List}
 use Prim.Native.Nat.{ℕ, max}
 use Rattle.scan.proofs.Bools.{cond-keeps}
 use Rattle.stream.specs.declared.Stream.{Stream}
-use Rattle.table.specs.Finding.{lowestId}
+use Rattle.finding.specs.Finding.{lowestId}
 use Rattle.table.specs.declared.Session.{Session}
 use Rattle.table.specs.declared.SatBox.{SatBox}
 use Rattle.closings.specs.Did.{Did, nothing, restreamed, reseated, noting}

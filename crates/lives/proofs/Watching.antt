@@ -6,10 +6,10 @@ use native.Mathlib.Omega.{arith}
 use Rattle.scan.proofs.Bools.{and-both, cond-keeps}
 use Rattle.stream.specs.declared.Stream.{Stream}
 use Rattle.table.specs.Table.{sessionAt}
-use Rattle.table.specs.Finding.{lowestPlace, lowestId}
+use Rattle.finding.specs.Finding.{lowestPlace, lowestId}
 use Rattle.table.specs.declared.Session.{Session}
 use Rattle.table.specs.declared.SatBox.{SatBox}
-use Rattle.table.proofs.Draws.{drawn-nonzero}
+use Rattle.finding.proofs.Draws.{drawn-nonzero}
 use Rattle.closings.specs.Did.{nothing, restreamed}
 use Rattle.closings.specs.Closing.{sweeping}
 use Rattle.serving.specs.Opening.{hasPlace, guest, seating as seated, canJoin, joining, canOpen, opening}

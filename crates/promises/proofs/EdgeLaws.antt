@@ -19,7 +19,7 @@ use Rattle.refusals.specs.declared.Refusal.the-variants.{Passed}
 use Rattle.reader.specs.Request.{uriOf, requestRefusal}
 use Rattle.table.specs.Counts.{any}
 use Rattle.table.specs.Table.{has}
-use Rattle.table.specs.Finding.{isTaken, nextNumber, drawnFrom, drawn}
+use Rattle.finding.specs.Finding.{isTaken, nextNumber, drawnFrom, drawn}
 use Rattle.table.specs.declared.Session.{Session}
 use Rattle.table.specs.declared.SatBox.{SatBox}
 use Rattle.steps.specs.Asked.{Asked, Lists, attributes, codesIn, askedOf, listsOf}

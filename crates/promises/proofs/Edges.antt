@@ -35,11 +35,11 @@ use Rattle.stream.specs.declared.Stream.{Stream}
 use Rattle.table.specs.Counts.{any}
 use Rattle.table.specs.Table.{noSession, has, isOpen, opens}
 use Rattle.table.specs.Formed.{isSeated, isEmpty, wellFormed}
-use Rattle.table.specs.Finding.{drawnFrom, lowestFrontend, drawn}
+use Rattle.finding.specs.Finding.{drawnFrom, lowestFrontend, drawn}
 use Rattle.table.specs.declared.Session.{Session}
 use Rattle.table.specs.declared.SatBox.{SatBox}
 use Rattle.table.specs.declared.Outcome.the-variants.{Done}
-use Rattle.table.proofs.Draws.{drawn-new, drawn-nonzero}
+use Rattle.finding.proofs.Draws.{drawn-new, drawn-nonzero}
 use Rattle.answer.specs.Lines.{reasonOf}
 use Rattle.steps.specs.Asked.{Asked, Lists, codesIn}
 use Rattle.steps.specs.Sights.{sightOf}

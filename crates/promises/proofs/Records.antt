@@ -16,7 +16,7 @@ use Rattle.journal.specs.Records.{nextSequence}
 use Rattle.journal.specs.declared.Record.{Record}
 use Rattle.stream.specs.Streams.{pastStream}
 use Rattle.table.specs.Table.{noSession, streamOf, isDead}
-use Rattle.table.specs.Finding.{lowestId}
+use Rattle.finding.specs.Finding.{lowestId}
 use Rattle.table.specs.declared.Session.{Session}
 use Rattle.table.specs.declared.SatBox.{SatBox}
 use Rattle.steps.specs.Asked.{Asked, Lists, askedOf, listsOf}

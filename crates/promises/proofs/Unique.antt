@@ -24,6 +24,7 @@ use Rattle.aim.proofs as aim
 use Rattle.reader.proofs as reader
 use Rattle.stream.proofs as stream
 use Rattle.table.proofs as table
+use Rattle.finding.proofs as finding
 use Rattle.formed.proofs as formed
 use Rattle.table.proofs.Places.{known}
 use Rattle.answer.proofs as answer
@@ -202,29 +203,29 @@ formed-is-well-formed κs a x y v w = same
 pub table-number : Unique table.number.ended table.number.Reads.Post
 table-number κs a x y v w = same
 
-pub table-place-of : Unique table.place_of.ended table.place_of.Reads.Post
-table-place-of κs a x y v w p q = same (p .is) (q .is)
+pub finding-place-of : Unique finding.place_of.ended finding.place_of.Reads.Post
+finding-place-of κs a x y v w p q = same (p .is) (q .is)
 
-pub table-lowest-place : Unique table.lowest_place.ended table.lowest_place.Reads.Post
-table-lowest-place κs a x y v w p q = same (p .is) (q .is)
+pub finding-lowest-place : Unique finding.lowest_place.ended finding.lowest_place.Reads.Post
+finding-lowest-place κs a x y v w p q = same (p .is) (q .is)
 
-pub table-lowest-id : Unique table.lowest_id.ended table.lowest_id.Reads.Post
-table-lowest-id κs a x y v w = same
+pub finding-lowest-id : Unique finding.lowest_id.ended finding.lowest_id.Reads.Post
+finding-lowest-id κs a x y v w = same
 
-pub table-owns : Unique table.owns.ended table.owns.Reads.Post
-table-owns κs a x y v w = same
+pub finding-owns : Unique finding.owns.ended finding.owns.Reads.Post
+finding-owns κs a x y v w = same
 
-pub table-is-held : Unique table.is_held.ended table.is_held.Reads.Post
-table-is-held κs a x y v w = same
+pub finding-is-held : Unique finding.is_held.ended finding.is_held.Reads.Post
+finding-is-held κs a x y v w = same
 
-pub table-lowest-frontend : Unique table.lowest_frontend.ended table.lowest_frontend.Reads.Post
-table-lowest-frontend κs a x y v w = same
+pub finding-lowest-frontend : Unique finding.lowest_frontend.ended finding.lowest_frontend.Reads.Post
+finding-lowest-frontend κs a x y v w = same
 
-pub table-draw : Unique table.draw.ended table.draw.Reads.Post
-table-draw κs a x y v w = same
+pub finding-draw : Unique finding.draw.ended finding.draw.Reads.Post
+finding-draw κs a x y v w = same
 
-pub table-count-open : Unique table.count_open.ended table.count_open.Reads.Post
-table-count-open κs a x y v w p q = same (p .0) (q .0)
+pub finding-count-open : Unique finding.count_open.ended finding.count_open.Reads.Post
+finding-count-open κs a x y v w p q = same (p .0) (q .0)
 
 -- ANSWER
 pub answer-write : Unique answer.write.ended answer.write.Reads.Post

@@ -12,7 +12,7 @@ use Rattle.scan.proofs.Bools.{cond-keeps}
 use Rattle.aim.specs.declared.Method.{Method}
 use Rattle.aim.specs.declared.Method.the-variants.{Options, Setup, Play, Teardown, Other}
 use Rattle.stream.specs.declared.Stream.{Stream}
-use Rattle.table.specs.Finding.{lowestId}
+use Rattle.finding.specs.Finding.{lowestId}
 use Rattle.table.specs.declared.SatBox.{SatBox}
 use Rattle.steps.specs.Asked.{Asked, Lists, askedOf, listsOf}
 use Rattle.steps.specs.Sights.{portOf, sightOf}

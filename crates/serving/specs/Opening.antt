@@ -6,7 +6,7 @@ use lib.ListN.{length}
 use Rattle.scan.specs.Classes.{isBetween}
 use Rattle.stream.specs.declared.Stream.{Stream}
 use Rattle.table.specs.Table.{opens, streamOf, isLive}
-use Rattle.table.specs.Finding.{lowestPlace, lowestId, isHeld, drawn}
+use Rattle.finding.specs.Finding.{lowestPlace, lowestId, isHeld, drawn}
 use Rattle.table.specs.declared.Session.{Session}
 use Rattle.table.specs.declared.SatBox.{SatBox}
 use Rattle.closings.specs.Did.{Did, when, restreamed, noting}

@@ -16,7 +16,7 @@ use Rattle.stream.specs.declared.Change.{Change}
 use Rattle.stream.specs.declared.Outcome.{Outcome}
 use Rattle.stream.specs.declared.Outcome.the-variants.{Merged, Combination as Clash, TooMany}
 use Rattle.table.specs.Table.{noSession, streamOf, owns}
-use Rattle.table.specs.Finding.{lowestFrontend, lowestId}
+use Rattle.finding.specs.Finding.{lowestFrontend, lowestId}
 use Rattle.table.specs.declared.Session.{Session}
 use Rattle.table.specs.declared.SatBox.{SatBox}
 use Rattle.steps.specs.Asked.{Asked, Lists, askedOf, listsOf}

@@ -19,7 +19,7 @@ use Rattle.stream.specs.declared.Outcome.{Outcome}
 use Rattle.stream.specs.declared.Outcome.the-variants.{Merged, Combination as Clash, TooMany}
 use Rattle.table.specs.Table.{noSession, streamOf, owns}
 use Rattle.table.specs.Formed.{wellFormed}
-use Rattle.table.specs.Finding.{lowestPlace, lowestId}
+use Rattle.finding.specs.Finding.{lowestPlace, lowestId}
 use Rattle.table.specs.declared.SatBox.{SatBox}
 use Rattle.table.specs.declared.Session.{Session}
 use Rattle.steps.specs.Asked.{askedBy, Told}

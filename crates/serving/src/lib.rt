@@ -127,7 +127,7 @@ fn retune(v: Sight, change: Change) -> Turn
 {
     let session = v.session;
     let next = after(v);
-    if !table::owns(session, v.stream) {
+    if !finding::owns(session, v.stream) {
         return reseat(v.place, next, next);
     }
     let outcome = change.outcome;

@@ -8,7 +8,7 @@ use Rattle.reader.specs.declared.fields.Session.the-variants.{Absent, Malformed
 use Rattle.reader.specs.declared.fields.Transport.{Transport}
 use Rattle.reader.specs.declared.fields.Transport.the-variants.{Other, Port}
 use Rattle.table.specs.Table.{sessionAt, streamOf}
-use Rattle.table.specs.Finding.{placeOf}
+use Rattle.finding.specs.Finding.{placeOf}
 use Rattle.table.specs.declared.Session.{Session}
 use Rattle.table.specs.declared.SatBox.{SatBox}
 use Rattle.steps.specs.Asked.{Asked}

@@ -81,7 +81,7 @@ pub(crate) fn is_anothers(v: Sight) -> bool
     ensures { λ r. ⌜ r ≡ isAnothers v ⌝ }
 {
     let s = v.session;
-    v.query & (!(v.stream == 0) & !table::owns(s, v.stream))
+    v.query & (!(v.stream == 0) & !finding::owns(s, v.stream))
 }
 
 // Step 15.

@@ -1,8 +1,6 @@
 pub mod Places
 pub mod NumberLaws
-pub mod Draws
 pub mod Counts
-pub mod Frontends
 pub mod Fresh
 pub mod Rules
 pub mod Changes

@@ -1,6 +1,5 @@
 pub mod Counts
 pub mod Table
 pub mod Formed
-pub mod Finding
 pub mod Made
 pub mod Samples

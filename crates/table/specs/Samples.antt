@@ -1,4 +1,4 @@
--- Samples of the meanings, by computation: what is free, numbers that are drawn, and tables at the edges of the rules. Assumes nothing.
+-- Samples of the meanings, by computation: tables at the edges of the rules. Assumes nothing.
 use mathlib.Core.Path.{_≡_, refl}
 use mathlib.Core.Bool.{true, false}
 use mathlib.Core.List.{List, [], _∷_, _++_}
@@ -10,7 +10,6 @@ use Rattle.stream.specs.Streams.{noStream, blank, areZero, isSound}
 use Rattle.stream.specs.declared.Stream.{Stream}
 use Rattle.table.specs.Table.{noSession}
 use Rattle.table.specs.Formed.{isSeated, isEmpty, wellFormed}
-use Rattle.table.specs.Finding.{lowestPlace, placeOf, lowestId, lowestFrontend, drawn}
 use Rattle.table.specs.Made.{fresh, madeOf}
 use Rattle.table.specs.declared.Refusal.the-variants.{Sizes}
 use Rattle.table.specs.declared.Outcome.the-variants.{Done, Refused}
@@ -38,27 +37,6 @@ places l = l ++ replicate (32 - length l) noSession
 
 abbrev pub rows : List Stream → List Stream
 rows ms = ms ++ replicate (8 - length ms) noStream
-
--- P3: "draw 0 gives 00000001"
-pub p3 : drawn (places []) 0 ≡ 1
-unfolding drawn
-p3 = refl
-
--- P4: "draw 4294967295 while FFFFFFFF is open gives the first free from 1"
-pub p4 : (drawn (places (owner 4294967295 ∷ [])) 4294967295 ≡ 1) × (drawn (places (owner 4294967295 ∷ joiner 1 ∷ [])) 4294967295 ≡ 2)
-unfolding drawn
-p4 = (refl, refl)
-
--- "the lowest free place", ID and frontend: in a gap, and where there is none
-pub places-free : (lowestPlace (places (owner 1 ∷ noSession ∷ joiner 2 ∷ [])) ≡ 1) × (lowestPlace (replicate 32 (owner 1)) ≡ 32) × (placeOf 2 (places (owner 1 ∷ noSession ∷ joiner 2 ∷ [])) ≡ 2)
-places-free = (refl, refl, refl)
-
-pub ids-free : (lowestId (rows (blank 2 ∷ [])) ≡ 2) × (lowestId (replicate 8 (blank 1)) ≡ 9)
-ids-free = (refl, refl)
-
-pub frontends-free : (lowestFrontend 2 (rows (blank 2 ∷ [])) ≡ 1) × (lowestFrontend 2 (rows (blank 1 ∷ [])) ≡ 2) × (lowestFrontend 2 (rows (blank 2 ∷ blank 1 ∷ [])) ≡ 3)
-unfolding lowestFrontend
-frontends-free = (refl, refl, refl)
 
 -- making a box: F is 1 to 8, C is 1,024 to 65,536 and a multiple of 16
 pub made : (madeOf 1 1024 .outcome ≡ Done) × (madeOf 8 65536 .outcome ≡ Done) × (madeOf 2 1040 .outcome ≡ Done)

@@ -1,16 +1,7 @@
-// The box's table: its sessions and streams, a fresh one, and what is free in it. Any bytes are a table; whether a box could stand so is said by
+// The box's table: its sessions and streams, and a fresh one. Any bytes are a table; whether a box could stand so is said by
 // the crate `formed`.
-mod finding;
 mod numbers;
 
-pub use finding::count_open;
-pub use finding::draw;
-pub use finding::is_held;
-pub use finding::lowest_frontend;
-pub use finding::lowest_id;
-pub use finding::lowest_place;
-pub use finding::owns;
-pub use finding::place_of;
 pub use numbers::are_distinct;
 pub use numbers::is_among;
 ghost use mathlib.Core.Path.{_≡_};

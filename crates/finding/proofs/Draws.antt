@@ -9,11 +9,11 @@ use lib.Dec.{eqb, leb}
 use lib.ListN.{length}
 use borrow.Author.Tests.{eqb-true, eqb-false, leb-true, lt-leb, le-leb, eq-eqb, ne-eqb}
 use Rattle.scan.proofs.Bools.{never, Case, case, is, isnt, Same, sames, same, other, or-second, or-neither}
 use Rattle.table.specs.Counts.{bit, count, any}
 use Rattle.table.specs.Table.{noSession, has}
-use Rattle.table.specs.Finding.{isTaken, nextNumber, drawnFrom, drawn}
+use Rattle.finding.specs.Finding.{isTaken, nextNumber, drawnFrom, drawn}
 use Rattle.table.specs.declared.Session.{Session}
 use Rattle.table.proofs.Counts.{count-le, count-length}
 
 -- what passes q passes p, and an element that passes r passes p and not q: there are more of p
 count-lt : {A : Type 0} (p q r : A → Bool) → ((a : A) → q a ≡ true → p a ≡ true) → ((a : A) → r a ≡ true → bit (q a) < bit (p a)) → (l : List A) → any r l ≡ true → count q l < count p l

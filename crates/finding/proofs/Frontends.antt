@@ -6,9 +6,9 @@ use Prim.Native.Nat.{ℕ, zero, suc, _+_, _-_, _≤_, _<_}
 use native.Mathlib.Omega.{arith}
 use Rattle.scan.proofs.Bools.{Case, case, is, isnt}
 use Rattle.stream.specs.declared.Stream.{Stream}
 use Rattle.table.specs.Counts.{isAmong}
 use Rattle.table.specs.Formed.{frontendsOf}
-use Rattle.table.specs.Finding.{isHeld, lowestAfter, lowestFrontend}
+use Rattle.finding.specs.Finding.{isHeld, lowestAfter, lowestFrontend}
 
 -- the frontends below f are among those held, whichever streams hold them
 pub record Ranging (held : List ℕ) (last f : ℕ) : Type 0 where

@@ -1,10 +1,10 @@
--- `table::finding::lowest_frontend` meets its contract. Invariant: the frontends below f are held. Assumes nothing.
+-- `finding::finding::lowest_frontend` meets its contract. Invariant: the frontends below f are held. Assumes nothing.
 use Prim.Native.Nat.{_+_, _-_}
 use borrow.Author.Needs.{needs}
 use borrow.Author.Tests.{not-true, not-false}
-use Rattle.table.proofs.Frontends.{Ranging, ranging-start, ranging-more, ranging-hit, ranging-end}
-use Rattle.table.proofs.finding.lowest_frontend.Statement.{statement}
-use Rattle.table.proofs.finding.lowest_frontend.Tie as tie
+use Rattle.finding.proofs.Frontends.{Ranging, ranging-start, ranging-more, ranging-hit, ranging-end}
+use Rattle.finding.proofs.lowest_frontend.Statement.{statement}
+use Rattle.finding.proofs.lowest_frontend.Tie as tie
 
 abbrev Inv-loop : tie.InvT-loop
 Inv-loop held last f₀ f = Ranging held last f

@@ -1,14 +1,14 @@
--- `table::finding::place_of` meets its contract. Assumes nothing.
+-- `finding::finding::place_of` meets its contract. Assumes nothing.
 use mathlib.Core.Path.{_≡_, refl}
 use Prim.Native.Nat.{_-_}
 use native.Mathlib.Omega.{arith}
 use lib.ListN.{length}
 use borrow.Author.Tests.{eq-eqb, ne-eqb}
 use Rattle.scan.proofs.Loops.{Seeking, seeking-start, seeking-hit, seeking-more, seeking-end}
 use Rattle.table.specs.Table.{noSession, has}
 use Rattle.table.proofs.Places.{known}
-use Rattle.table.proofs.finding.place_of.Statement.{statement}
-use Rattle.table.proofs.finding.place_of.Tie as tie
+use Rattle.finding.proofs.place_of.Statement.{statement}
+use Rattle.finding.proofs.place_of.Tie as tie
 
 abbrev Inv-loop : tie.InvT-loop
 Inv-loop n t place₀ place = (length (t .sessions) ≡ 32) × Seeking (has n) (t .sessions) place

@@ -1,4 +1,4 @@
--- `table::finding::draw` meets its contract. Invariant: every number that was passed is taken, and no place before i has this one.
+-- `finding::finding::draw` meets its contract. Invariant: every number that was passed is taken, and no place before i has this one.
 -- Assumes nothing.
 use mathlib.Core.Path.{_≡_, sym}
 use mathlib.Core.Logic.{⊎-elim}
@@ -7,13 +7,13 @@ use Prim.Native.Nat.{ℕ, _-_}
 use native.Mathlib.Omega.{arith}
 use lib.ListN.{length}
 use borrow.Author.Tests.{eq-eqb, ne-eqb}
 use Rattle.table.specs.Table.{noSession, has}
-use Rattle.table.specs.Finding.{isTaken}
+use Rattle.finding.specs.Finding.{isTaken}
 use Rattle.table.proofs.Places.{known}
 use Rattle.table.proofs.NumberLaws.{Lacking, lacking-start, lacking-more, lacking-hit, lacking-end}
-use Rattle.table.proofs.Draws.{Drawing, toPass, drawing-start, drawing-less, drawing-more, drawing-end, taken-zero, taken-open, taken-not}
-use Rattle.table.proofs.finding.draw.Statement.{statement}
-use Rattle.table.proofs.finding.draw.Tie as tie
+use Rattle.finding.proofs.Draws.{Drawing, toPass, drawing-start, drawing-less, drawing-more, drawing-end, taken-zero, taken-open, taken-not}
+use Rattle.finding.proofs.draw.Statement.{statement}
+use Rattle.finding.proofs.draw.Tie as tie
 
 abbrev Inv-loop : tie.InvT-loop
 Inv-loop draw t n i₀ i = Lacking (has n) (t .sessions) i

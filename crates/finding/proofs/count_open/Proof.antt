@@ -1,4 +1,4 @@
--- `table::finding::count_open` meets its contract. Invariant: n of the places before i are open. Assumes nothing.
+-- `finding::finding::count_open` meets its contract. Invariant: n of the places before i are open. Assumes nothing.
 use mathlib.Core.Path.{_≡_, ap}
 use mathlib.Core.Bool.{not}
 use mathlib.Core.Logic.{⊎-elim}
@@ -6,10 +6,10 @@ use Prim.Native.Nat.{_-_}
 use native.Mathlib.Omega.{arith}
 use lib.ListN.{length}
 use borrow.Author.Tests.{eq-eqb, ne-eqb}
 use Rattle.table.specs.Table.{noSession, isOpen}
 use Rattle.table.proofs.Places.{known, Counting, counting-start, counting-one, counting-no, counting-end}
-use Rattle.table.proofs.finding.count_open.Statement.{statement}
-use Rattle.table.proofs.finding.count_open.Tie as tie
+use Rattle.finding.proofs.count_open.Statement.{statement}
+use Rattle.finding.proofs.count_open.Tie as tie
 
 abbrev Inv-loop : tie.InvT-loop
 Inv-loop t n₀ i₀ n i = (length (t .sessions) ≡ 32) × Counting isOpen (t .sessions) i n

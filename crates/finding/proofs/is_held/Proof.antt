@@ -1,9 +1,9 @@
--- `table::finding::is_held` meets its contract. Assumes nothing.
+-- `finding::finding::is_held` meets its contract. Assumes nothing.
 use mathlib.Core.Path.{_∙_, ap}
 use borrow.Author.Needs.{needs}
 use Rattle.table.specs.Counts.{isAmong}
-use Rattle.table.proofs.finding.is_held.Statement.{statement}
-use Rattle.table.proofs.finding.is_held.Tie as tie
+use Rattle.finding.proofs.is_held.Statement.{statement}
+use Rattle.finding.proofs.is_held.Tie as tie
 
 pub is-held-spec : {M : Type 1} → statement M
 is-held-spec =

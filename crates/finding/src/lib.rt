@@ -2,12 +2,11 @@
 ghost use mathlib.Core.Path.{_≡_};
 ghost use Prim.Native.Nat.{_≤_};
 ghost use Rattle.scan.specs.Lists.{FirstOf};
+ghost use Rattle.table.specs.Formed.{frontendsOf};
 ghost use Rattle.table.specs.Table.{has, isFree, isDead, opens, owns};
-ghost use Rattle.table.specs.Finding.{lowestId, isHeld, lowestFrontend, drawn};
-use crate::SatBox;
-use crate::Session;
-use crate::numbers::frontends_of;
-use crate::numbers::is_among;
+ghost use Rattle.finding.specs.Finding.{lowestId, isHeld, lowestFrontend, drawn};
+use table::SatBox;
+use table::Session;
 
 // The place of the session that has the number; 32 where none has it.
 pub fn place_of(t: SatBox, n: u32) -> usize
@@ -58,11 +57,25 @@ pub fn owns(s: Session, id: u32) -> bool
     (!(s.number == 0) & (s.stream as u32 == id)) & !(s.owner == 0)
 }
 
+// The frontend at each stream's place.
+fn frontends_of(t: SatBox) -> [u32; 8]
+    ensures { λ r. ⌜ r ≡ frontendsOf (t .streams) ⌝ }
+{
+    let mut frontends = [0u32; 8];
+    let mut i = 0;
+    while i < SatBox::STREAMS {
+        let m = t.streams[i];
+        frontends[i] = m.frontend as u32;
+        i += 1;
+    }
+    frontends
+}
+
 // Whether a stream holds the frontend.
 pub fn is_held(t: SatBox, f: u32) -> bool
     ensures { λ r. ⌜ r ≡ isHeld f (t .streams) ⌝ }
 {
-    is_among(&frontends_of(t), f)
+    table::is_among(&frontends_of(t), f)
 }
 
 // The lowest frontend that no stream holds; the one after the last where all are held.
@@ -73,7 +86,7 @@ pub fn lowest_frontend(t: SatBox) -> u32
     let last = t.frontends as u32;
     let mut f = 1;
     while f <= last {
-        if !is_among(&held, f) {
+        if !table::is_among(&held, f) {
             return f;
         }
         f += 1;

@@ -1,14 +1,14 @@
--- `table::numbers::frontends_of` meets its contract. Assumes nothing.
+-- `finding::numbers::frontends_of` meets its contract. Assumes nothing.
 use mathlib.Core.Path.{_≡_, refl}
 use Prim.Native.Nat.{_-_}
 use native.Mathlib.Omega.{arith}
 use lib.ListN.{length}
 use Rattle.stream.specs.Streams.{pastStream}
 use Rattle.stream.specs.declared.Stream.{Stream}
 use Rattle.table.proofs.Places.{known}
 use Rattle.table.proofs.NumberLaws.{Gathered, gathered-start, gathered-more, gathered-end}
-use Rattle.table.proofs.numbers.frontends_of.Statement.{statement}
-use Rattle.table.proofs.numbers.frontends_of.Tie as tie
+use Rattle.finding.proofs.frontends_of.Statement.{statement}
+use Rattle.finding.proofs.frontends_of.Tie as tie
 
 abbrev Inv-loop : tie.InvT-loop
 Inv-loop t was₀ i₀ a i = (length (t .streams) ≡ 8) × Gathered (λ (m : Stream). m .frontend) (t .streams) was₀ a i

@@ -1,4 +1,4 @@
--- `table::finding::first_dead` meets its contract. Assumes nothing.
+-- `finding::finding::first_dead` meets its contract. Assumes nothing.
 use mathlib.Core.Path.{_≡_, refl}
 use Prim.Native.Nat.{_-_}
 use native.Mathlib.Omega.{arith}
@@ -6,10 +6,10 @@ use lib.ListN.{length}
 use borrow.Author.Tests.{eq-eqb, ne-eqb}
 use Rattle.scan.proofs.Loops.{Seeking, seeking-start, seeking-hit, seeking-more, seeking-end}
 use Rattle.stream.specs.Streams.{pastStream}
 use Rattle.table.specs.Table.{isDead}
 use Rattle.table.proofs.Places.{known}
-use Rattle.table.proofs.finding.first_dead.Statement.{statement}
-use Rattle.table.proofs.finding.first_dead.Tie as tie
+use Rattle.finding.proofs.first_dead.Statement.{statement}
+use Rattle.finding.proofs.first_dead.Tie as tie
 
 abbrev Inv-loop : tie.InvT-loop
 Inv-loop t i₀ i = (length (t .streams) ≡ 8) × Seeking isDead (t .streams) i
