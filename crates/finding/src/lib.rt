@@ -62,11 +62,11 @@ fn frontends_of(t: SatBox) -> [u32; 8]
     ensures { λ r. ⌜ r ≡ frontendsOf (t .streams) ⌝ }
 {
     let mut frontends = [0u32; 8];
-    let mut i = 0;
-    while i < SatBox::STREAMS {
-        let m = t.streams[i];
-        frontends[i] = m.frontend as u32;
-        i += 1;
+    let mut k = 0;
+    while k < SatBox::STREAMS {
+        let m = t.streams[k];
+        frontends[k] = m.frontend as u32;
+        k += 1;
     }
     frontends
 }

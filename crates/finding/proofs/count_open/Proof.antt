@@ -1,4 +1,4 @@
--- `finding::finding::count_open` meets its contract. Invariant: n of the places before i are open. Assumes nothing.
+-- `finding::count_open` meets its contract. Invariant: n of the places before i are open. Assumes nothing.
 use mathlib.Core.Path.{_≡_, ap}
 use mathlib.Core.Bool.{not}
 use mathlib.Core.Logic.{⊎-elim}

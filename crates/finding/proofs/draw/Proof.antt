@@ -1,4 +1,4 @@
--- `finding::finding::draw` meets its contract. Invariant: every number that was passed is taken, and no place before i has this one.
+-- `finding::draw` meets its contract. Invariant: every number that was passed is taken, and no place before i has this one.
 -- Assumes nothing.
 use mathlib.Core.Path.{_≡_, sym}
 use mathlib.Core.Logic.{⊎-elim}

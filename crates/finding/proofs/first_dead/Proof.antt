@@ -1,4 +1,4 @@
--- `finding::finding::first_dead` meets its contract. Assumes nothing.
+-- `finding::first_dead` meets its contract. Assumes nothing.
 use mathlib.Core.Path.{_≡_, refl}
 use Prim.Native.Nat.{_-_}
 use native.Mathlib.Omega.{arith}

@@ -1,4 +1,4 @@
--- `finding::numbers::frontends_of` meets its contract. Assumes nothing.
+-- `finding::frontends_of` meets its contract. Assumes nothing.
 use mathlib.Core.Path.{_≡_, refl}
 use Prim.Native.Nat.{_-_}
 use native.Mathlib.Omega.{arith}

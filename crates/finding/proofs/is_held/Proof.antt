@@ -1,4 +1,4 @@
--- `finding::finding::is_held` meets its contract. Assumes nothing.
+-- `finding::is_held` meets its contract. Assumes nothing.
 use mathlib.Core.Path.{_∙_, ap}
 use borrow.Author.Needs.{needs}
 use Rattle.table.specs.Counts.{isAmong}

@@ -1,4 +1,4 @@
--- `finding::finding::lowest_frontend` meets its contract. Invariant: the frontends below f are held. Assumes nothing.
+-- `finding::lowest_frontend` meets its contract. Invariant: the frontends below f are held. Assumes nothing.
 use Prim.Native.Nat.{_+_, _-_}
 use borrow.Author.Needs.{needs}
 use borrow.Author.Tests.{not-true, not-false}

@@ -1,4 +1,4 @@
--- `finding::finding::lowest_id` meets its contract. Assumes nothing.
+-- `finding::lowest_id` meets its contract. Assumes nothing.
 use mathlib.Core.Path.{_≡_}
 use native.Mathlib.Omega.{arith}
 use lib.ListN.{length}

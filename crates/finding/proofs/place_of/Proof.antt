@@ -1,4 +1,4 @@
--- `finding::finding::place_of` meets its contract. Assumes nothing.
+-- `finding::place_of` meets its contract. Assumes nothing.
 use mathlib.Core.Path.{_≡_, refl}
 use Prim.Native.Nat.{_-_}
 use native.Mathlib.Omega.{arith}

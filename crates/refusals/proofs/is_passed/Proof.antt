@@ -1,4 +1,4 @@
--- `aim::refusals::is_passed` meets its contract. Assumes nothing.
+-- `refusals::is_passed` meets its contract. Assumes nothing.
 use borrow.Author.Needs.{needs}
 use Rattle.refusals.proofs.is_passed.Statement.{statement}
 use Rattle.refusals.proofs.is_passed.Tie as tie

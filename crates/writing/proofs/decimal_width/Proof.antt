@@ -1,4 +1,4 @@
--- `digits::decimal_width` meets its contract. Invariant: n digits are counted, and those of the rest are still to count. Assumes nothing.
+-- `writing::decimal_width` meets its contract. Invariant: n digits are counted, and those of the rest are still to count. Assumes nothing.
 use borrow.Author.Needs.{needs}
 use Rattle.writing.proofs.Numerals.{Counting, counting-start, counting-more, counting-end}
 use Rattle.writing.proofs.decimal_width.Statement.{statement}

@@ -1,4 +1,4 @@
--- `digits::put` meets its contract. Assumes nothing.
+-- `writing::put` meets its contract. Assumes nothing.
 use borrow.Author.Needs.{needs}
 use Rattle.writing.proofs.Writes.{wrote-past, wrote-some}
 use Rattle.writing.proofs.put.Statement.{statement}

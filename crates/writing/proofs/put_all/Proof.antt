@@ -1,4 +1,4 @@
--- `digits::put_all` meets its contract. Invariant: what is left of the text, stored from place at + i on, makes the buffer that is wanted.
+-- `writing::put_all` meets its contract. Invariant: what is left of the text, stored from place at + i on, makes the buffer that is wanted.
 -- Assumes nothing.
 use Prim.Native.Nat.{_-_}
 use native.Mathlib.Omega.{arith}

@@ -1,4 +1,4 @@
--- `digits::put_decimal` meets its contract. Assumes nothing.
+-- `writing::put_decimal` meets its contract. Assumes nothing.
 use borrow.Author.Needs.{needs}
 use Rattle.writing.proofs.Numerals.{wrote-decimal}
 use Rattle.writing.proofs.put_decimal.Statement.{statement}

@@ -1,4 +1,4 @@
--- `digits::put_digits` meets its contract. Invariant: the i digits of the rest, put at the same place, make the buffer that is wanted.
+-- `writing::put_digits` meets its contract. Invariant: the i digits of the rest, put at the same place, make the buffer that is wanted.
 -- Assumes nothing.
 use native.Mathlib.Nat.{mod-lt}
 use native.Mathlib.Omega.{arith}

@@ -1,4 +1,4 @@
--- `digits::put_dotted` meets its contract: its seven puts are one put of the joined text. Assumes nothing.
+-- `writing::put_dotted` meets its contract: its seven puts are one put of the joined text. Assumes nothing.
 use borrow.Author.Needs.{needs}
 use Rattle.writing.proofs.Writes.{_then_}
 use Rattle.writing.proofs.Numerals.{dotted-octets}

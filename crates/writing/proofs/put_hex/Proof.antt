@@ -1,4 +1,4 @@
--- `digits::put_hex` meets its contract. Assumes nothing.
+-- `writing::put_hex` meets its contract. Assumes nothing.
 use borrow.Author.Needs.{needs}
 use Rattle.writing.proofs.Numerals.{wrote-hex8}
 use Rattle.writing.proofs.put_hex.Statement.{statement}

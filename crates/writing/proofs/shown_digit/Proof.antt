@@ -1,4 +1,4 @@
--- `digits::shown_digit` meets its contract. Assumes nothing.
+-- `writing::shown_digit` meets its contract. Assumes nothing.
 use borrow.Author.Needs.{needs}
 use borrow.Author.Tests.{lt-ltb, le-ltb}
 use Rattle.writing.proofs.shown_digit.Statement.{statement}

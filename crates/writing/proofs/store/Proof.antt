@@ -1,4 +1,4 @@
--- `digits::store` meets its contract. Assumes nothing.
+-- `writing::store` meets its contract. Assumes nothing.
 use mathlib.Core.Path.{sym}
 use lib.Seq.{set-out}
 use borrow.Author.Needs.{needs}
