@@ -17,8 +17,8 @@ use Rattle.closings.specs.Closing.{closeOne, atClock}
 use Rattle.satbox.specs.Calls.{emptied}
 use Rattle.serving.specs.Serving.{replaced}
 use Rattle.promises.proofs.Serving.{Alike}
-use Rattle.lives.specs.Audit.{unheld, notedBy, audited, isHolder, keeps, holds, Agree}
-use Rattle.lives.proofs.Keepers.{audited-more, noted-none, noted-others, closed-keeps, closed-kept, closed-kept-others, freed-keeps, fed-keeps, alike-keeps}
+use Rattle.lives.specs.Audit.{unheld, notedBy, audited, holds, Agree}
+use Rattle.lives.proofs.Keepers.{audited-more, noted-none, noted-others, closed-keeps, closed-kept, closed-kept-others, freed-keeps, fed-keeps, alike-keeps, isHolder, keeps}
 
 -- no two open sessions have one number
 abbrev pub Single : SatBox → Type 0

@@ -19,7 +19,8 @@ use Rattle.table.specs.declared.SatBox.{SatBox}
 use Rattle.table.proofs.Counts.{first-some, first-passes}
 use Rattle.table.proofs.Rules.{fed}
 use Rattle.closings.proofs.Keeping.{Whole}
-use Rattle.lives.specs.Audit.{Frontend, unheld, heldBy, letGo, audited, isTaken, isHolder, keeps, holds, Agree}
+use Rattle.lives.specs.Audit.{Frontend, unheld, heldBy, letGo, audited, holds, Agree, isHeldBy}
+use Rattle.lives.proofs.Keepers.{isHolder, keeps}
 
 -- WHICH FRONTENDS ARE HELD: a stream has one exactly if an open session owns that stream
 any-first : {A : Type 0} (p : A → Bool) (l : List A) (d : A) → any p l ≡ true → p (getD l (first p l) d) ≡ true
@@ -67,7 +68,7 @@ module _ (h : List Record) (t : SatBox) (w : Whole t) (g : Agree h t) (f : ℕ) 
   unkept none (isnt y) = y
   unkept none (is y) = let k = kept y in never (k .1) (none (k .0))
 
-  held-by : (a : Frontend) → audited f h ≡ a → isHeld f (t .streams) ≡ isTaken a
+  held-by : (a : Frontend) → audited f h ≡ a → isHeld f (t .streams) ≡ isHeldBy (λ n. true) a
   held-by unheld e = unkept (λ n. g .same f n z ∙ ap (isHolder n) e) (case _)
   held-by (letGo m c) e = unkept (λ n. g .same f n z ∙ ap (isHolder n) e) (case _)
   held-by (heldBy n) e =
@@ -77,5 +78,5 @@ module _ (h : List Record) (t : SatBox) (w : Whole t) (g : Agree h t) (f : ℕ) 
       let k = and-both (has n s) _ (and-both (owns (s .stream) s) _ (any-first p (t .sessions) noSession y) .1) in
       fed-held f (t .streams) (s .stream) z (eqb-true _ _ (k .1))
 
-  pub held-agrees : isHeld f (t .streams) ≡ isTaken (audited f h)
+  pub held-agrees : isHeld f (t .streams) ≡ isHeldBy (λ n. true) (audited f h)
   held-agrees = held-by (audited f h) refl

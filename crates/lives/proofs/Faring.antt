@@ -4,11 +4,11 @@ use mathlib.Core.Path.{_≡_, refl, sym, _∙_, ap, subst}
 use mathlib.Core.Bool.{Bool, true, false}
 use mathlib.Core.List.{List, [], _∷_, _++_}
 use mathlib.Core.Logic.{_⊎_, inl, inr}
-use Prim.Native.Nat.{ℕ, _+_, _-_, _≤_, _<_, max}
+use Prim.Native.Nat.{ℕ, suc, _+_, _-_, _≤_, _<_, max}
 use native.Mathlib.Decide.{decLt}
 use native.Mathlib.Omega.{arith}
 use lib.Dec.{eqb, ltb}
-use lib.ListN.{length, List·getD-eq-default}
+use lib.ListN.{length, getD, List·getD-eq-default}
 use borrow.Author.Tests.{eq-eqb, ne-eqb, eqb-true, ltb-true, lt-ltb, le-leb}
 use Rattle.scan.specs.Lists.{all}
 use Rattle.scan.proofs.Bools.{never, and-both, both, or-neither, by-cases, Case, is, isnt, case, Same, same, other, sames}
@@ -43,13 +43,13 @@ use Rattle.closings.proofs.Keeping.{Whole, clock-whole}
 use Rattle.satbox.proofs.Kept.{sweeping-whole}
 use Rattle.promises.proofs.Requests.{answered-still}
 use Rattle.promises.proofs.Methods.{Changes, options-refreshes, options-alone, other-alone, setup-replaces, play-marks, setup-joins, setup-opens}
-use Rattle.lives.specs.Calls.{lent, Call, request, tick, collect, order, recordsIn, isCall}
+use Rattle.lives.specs.Calls.{lent, Call, request, tick, collect, order, comes, isCall}
 use Rattle.lives.specs.Runs.{Life, live, run, recordsOf}
-use Rattle.lives.specs.Closed.{isClosing, isClosingOf, Fares, remains, closed, placeNamedBy, isOptions, isKeepAlive}
+use Rattle.lives.specs.Closed.{isClosingOf, Fares, remains, closed, placeNamedBy, KeepsAlive, in-options}
 use Rattle.lives.proofs.Settings.{sweeping-set, requested-set}
 use Rattle.lives.proofs.Holding.{Good}
 use Rattle.lives.proofs.Running.{live-good}
-use Rattle.lives.proofs.Fates.{Fate, stays, leaves, any-left, any-right, closing-fates}
+use Rattle.lives.proofs.Fates.{Fate, stays, leaves, any-left, any-right, closing-fates, isClosing}
 use Rattle.lives.proofs.Sweeps.{swept-fates}
 use Rattle.lives.proofs.Keepers.{any-less}
 use Rattle.lives.proofs.Young.{Young, run-young}
@@ -61,9 +61,7 @@ any-more p q h rs y (isnt z) = never y (any-less p q h rs z)
 
 closing-closes : (clock frontend n : ℕ) (s : Session) → s .number ≡ n → (r : Record) → isClosing clock frontend s r ≡ true → isClosingOf n r ≡ true
 closing-closes clock frontend n s a r z =
-    let b = and-both (eqb (r .kind) 3) _ z in
-    let c = and-both (eqb (r .session) (s .number)) _ (and-both (eqb (r .clock) clock) _ (b .1) .1) in
-    both (b .0) (eq-eqb (r .session) n (eqb-true _ _ (c .0) ∙ a))
+    subst (λ m. isClosingOf m r ≡ true) a (and-both (isClosingOf (s .number) r) _ z .0)
 
 -- the session that a header names has its number
 named-number : (t : SatBox) → length (t .sessions) ≡ 32 → (sent : Sent) → placeNamed sent t < 32 → sessionAt t (placeNamed sent t) .number ≡ numberOf sent
@@ -180,7 +178,7 @@ module _ (n i : ℕ) (some : n ≡ 0 → ⊥) (P : ℕ → Type 0) where
     swept-fares clock = fate-fares (swept-fates (atClock clock t) (clock-whole clock t w) .each i) refl a p
 
     requested-fares : (s : List ℕ) (clock address draw : ℕ)
-        → (methodOf s ≡ Options → eqb (numberOf (sessionOf (valuesOf 1 (headerLines s)))) n ≡ true → P (max (t .clock) clock))
+        → (methodOf s ≡ Options → numberOf (sessionOf (valuesOf 1 (headerLines s))) ≡ n → P (max (t .clock) clock))
         → Fares n i P (requested s clock address draw t .did .satbox) (requested s clock address draw t .did .records)
     unfolding requested
     requested-fares s clock address draw kept =
@@ -191,7 +189,7 @@ module _ (n i : ℕ) (some : n ≡ 0 → ⊥) (P : ℕ → Type 0) where
         (λ m e.
         let l : placeNamedBy s v < 32 = omega (arith, inside v u b) in
         subst P (sym (sweeping-set clock t w .clock))
-        (kept m (eq-eqb _ n (sym (named-number v (u .places) (sessionOf (valuesOf 1 (headerLines s))) l) ∙ (ap (λ k. sessionAt v k .number) e ∙ b))))) (case _))
+        (kept m (sym (named-number v (u .places) (sessionOf (valuesOf 1 (headerLines s))) l) ∙ (ap (λ k. sessionAt v k .number) e ∙ b)))) (case _))
 
   -- from a clock c on, at each later clock P holds where an OPTIONS names it
   module _ (c : ℕ) where
@@ -201,19 +199,22 @@ module _ (n i : ℕ) (some : n ≡ 0 → ⊥) (P : ℕ → Type 0) where
     emptied-fares Done (closed y) = closed y
     emptied-fares (Refused r) f = f
 
-    live-fares : {frontends size : ℕ} {x : Life} → Good frontends size x → c ≤ x .satbox .clock → (k : Call) → (isKeepAlive n k ≡ true → (m : ℕ) → c ≤ m → P m)
-        → sessionAt (x .satbox) i .number ≡ n → P (sessionAt (x .satbox) i .last) → Fares n i P (live k x .satbox) (recordsIn k (x .satbox) (x .journal))
+    live-fares : {frontends size : ℕ} {x : Life} → Good frontends size x → c ≤ x .satbox .clock → (k : Call) → (KeepsAlive n k → (m : ℕ) → c ≤ m → P m)
+        → sessionAt (x .satbox) i .number ≡ n → P (sessionAt (x .satbox) i .last) → Fares n i P (live k x .satbox) (comes k (x .satbox) (x .journal) .records)
     unfolding live replied ticked collected
     live-fares {x = x} g now (request s clock address draw b l) kept a p =
         done-fares (requestOutcome (x .satbox) (lent l (x .journal)) b)
-        (requested-fares (x .satbox) (g .whole) a p s clock address draw (λ m e. kept (both (ap isOptions m) e) _ (omega arith))) (remains a p)
+        (requested-fares (x .satbox) (g .whole) a p s clock address draw (λ m e. kept (in-options m e) _ (omega arith))) (remains a p)
     live-fares {x = x} g now (tick clock l) kept a p =
         done-fares (tickOutcome (x .satbox) (lent l (x .journal))) (swept-fares (x .satbox) (g .whole) a p clock) (remains a p)
     live-fares {x = x} g now (collect b l) kept a p = emptied-fares (collectOutcome (x .satbox) (lent l (x .journal)) b) (remains a p)
     live-fares g now (order f) kept a p = remains a p
 
+    abbrev Unkept : List Call → Type 0
+    Unkept ks = (i : ℕ) → KeepsAlive n (getD ks i (order 0)) → ⊥
+
     pub run-fares : {frontends size : ℕ} (ks : List Call) {x : Life} → all (isCall size) ks ≡ true → Good frontends size x → c ≤ x .satbox .clock
-        → ((m : ℕ) → c ≤ m → P m) ⊎ (any (isKeepAlive n) ks ≡ false)
+        → ((m : ℕ) → c ≤ m → P m) ⊎ Unkept ks
         → sessionAt (x .satbox) i .number ≡ n → P (sessionAt (x .satbox) i .last) → Fares n i P (run ks x .satbox) (recordsOf ks x)
     run-fares [] e g now kept a p = remains a p
     run-fares {size = size} (k ∷ ks) {x} e g now kept a p =
@@ -221,17 +222,17 @@ module _ (n i : ℕ) (some : n ≡ 0 → ⊥) (P : ℕ → Type 0) where
         then-fares (live-fares g now k (first-kept kept) a p)
         (λ b r. run-fares ks (q .1) (live-good g k (q .0)) (clock-later g k now) (rest-kept kept) b r)
       where
-        first-kept : ((m : ℕ) → c ≤ m → P m) ⊎ (any (isKeepAlive n) (k ∷ ks) ≡ false) → isKeepAlive n k ≡ true → (m : ℕ) → c ≤ m → P m
+        first-kept : ((m : ℕ) → c ≤ m → P m) ⊎ Unkept (k ∷ ks) → KeepsAlive n k → (m : ℕ) → c ≤ m → P m
         first-kept (inl f) y = f
-        first-kept (inr z) y = never y (or-neither (isKeepAlive n k) _ z .0)
+        first-kept (inr z) y = absurd (z 0 y)
 
-        rest-kept : ((m : ℕ) → c ≤ m → P m) ⊎ (any (isKeepAlive n) (k ∷ ks) ≡ false) → ((m : ℕ) → c ≤ m → P m) ⊎ (any (isKeepAlive n) ks ≡ false)
+        rest-kept : ((m : ℕ) → c ≤ m → P m) ⊎ Unkept (k ∷ ks) → ((m : ℕ) → c ≤ m → P m) ⊎ Unkept ks
         rest-kept (inl f) = inl f
-        rest-kept (inr z) = inr (or-neither (isKeepAlive n k) _ z .1)
+        rest-kept (inr z) = inr (λ i. z (suc i))
 
 -- WHOM NOTHING KEEPS keeps its last time; and once the clock is 60 later, a record says that it closed: nothing that is open has expired
 module _ {frontends size : ℕ} {x : Life} (g : Good frontends size x) (young : Young (x .satbox .clock) (x .satbox)) (i : ℕ) (some : isOpen (sessionAt (x .satbox) i) ≡ true)
-    (ds : List Call) (calls : all (isCall size) ds ≡ true) (unkept : any (isKeepAlive (sessionAt (x .satbox) i .number)) ds ≡ false) where
+    (ds : List Call) (calls : all (isCall size) ds ≡ true) (unkept : (k : ℕ) → KeepsAlive (sessionAt (x .satbox) i .number) (getD ds k (order 0)) → ⊥) where
   abbrev old : Session
   old = sessionAt (x .satbox) i
 

@@ -1,6 +1,6 @@
 -- What becomes of each session in a closing and in a sweep: it stays as it is, or it leaves and its closing's record is written. Assumes nothing.
 use mathlib.Core.Path.{_≡_, refl, sym, _∙_, ap, subst}
-use mathlib.Core.Bool.{Bool, true, false}
+use mathlib.Core.Bool.{Bool, true, false, _&&_}
 use mathlib.Core.List.{List, [], _∷_, _++_}
 use Prim.Native.Nat.{ℕ, _≤_, _<_}
 use native.Mathlib.Omega.{arith}
@@ -23,7 +23,11 @@ use Rattle.closings.proofs.Closings.{closable, closeOne-fine, closeOn-fine}
 use Rattle.closings.proofs.Keeping.{Whole, whole-roomy, sweepAt-whole, cascade-sessions}
 use Rattle.closings.proofs.Runs.{upto-holds}
 use Rattle.promises.proofs.Methods.{stream-other}
-use Rattle.lives.specs.Closed.{isClosing}
+use Rattle.lives.specs.Closed.{isClosingOf}
+
+-- r says that the session s closed at a clock, on a stream that had a frontend
+abbrev pub isClosing : ℕ → ℕ → Session → Record → Bool
+isClosing clock frontend s r = isClosingOf (s .number) r && (eqb (r .clock) clock && (eqb (r .stream) (s .stream) && eqb (r .frontend) frontend))
 
 -- the session s of t in the table after d, where `after` stands in its place
 pub data Fate (t : SatBox) (d : Did) (s after : Session) : Type 0 where

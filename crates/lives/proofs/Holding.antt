@@ -25,7 +25,7 @@ use Rattle.serving.proofs.RecordLaws.{Counts-on}
 use Rattle.serving.proofs.Recorded.{Recorded}
 use Rattle.promises.proofs.Written.{Counted}
 use Rattle.lives.specs.Calls.{Lent, own, lent, ownAfter}
-use Rattle.lives.specs.Runs.{Life, born}
+use Rattle.lives.specs.Runs.{Life, after}
 use Rattle.lives.proofs.Fitting.{all-both}
 use Rattle.lives.proofs.Journals.{take-written, counts-both}
 
@@ -44,7 +44,7 @@ pub record Good (frontends size : ℕ) (x : Life) : Type 0 where
   pub gathered : x .gathered ≡ bytesOf past
 
 -- A FRESH BOX
-pub born-good : (frontends size : ℕ) (j : List ℕ) → areSizes frontends size ≡ true → length j ≡ size → Good frontends size (born frontends size j)
+pub born-good : (frontends size : ℕ) (j : List ℕ) → areSizes frontends size ≡ true → length j ≡ size → Good frontends size (after frontends size j [])
 born-good frontends size j e h =
     record {
       whole = fresh-whole frontends size e;

@@ -1,7 +1,7 @@
 -- Who holds which frontend in a table, and what each change of the sessions and the streams does to that. Assumes nothing.
 use mathlib.Core.Path.{_≡_, refl, sym, _∙_, ap, subst}
 use mathlib.Core.Bool.{Bool, true, false, cond, _&&_, _||_, and-false}
-use mathlib.Core.List.{List, [], _∷_, _++_}
+use mathlib.Core.List.{List, [], _∷_, _++_, foldl}
 use Prim.Native.Nat.{ℕ, zero, suc, _≤_, _<_}
 use native.Mathlib.Omega.{arith}
 use lib.Dec.{eqb}
@@ -17,7 +17,7 @@ use Rattle.table.specs.declared.Session.{Session}
 use Rattle.table.proofs.Counts.{bit-no, bit-yes, count-set, count-zero-at, none-count, getD-set-alike}
 use Rattle.promises.proofs.Serving.{Alike}
 use Rattle.promises.proofs.Methods.{stream-other}
-use Rattle.lives.specs.Audit.{Frontend, unheld, heldBy, letGo, closedBy, notedBy, auditedFrom, isHolder, keeps}
+use Rattle.lives.specs.Audit.{Frontend, unheld, heldBy, letGo, isHeldBy, closedBy, notedBy}
 
 -- SOME ELEMENT PASSES, after one is set
 module _ {A : Type 0} where
@@ -49,16 +49,24 @@ module _ {A : Type 0} where
       fails p q h a n (is y) = never (h a y) n
       fails p q h a n (isnt y) = y
 
+-- OF ONE SESSION: the session n holds a frontend, in a history and in a table
+abbrev pub isHolder : ℕ → Frontend → Bool
+isHolder n a = isHeldBy (λ m. eqb m n) a
+
+abbrev pub keeps : List Stream → ℕ → ℕ → Session → Bool
+keeps ms f n s = owns (s .stream) s && (has n s && eqb (streamIn ms (s .stream) .frontend) f)
+
 -- THE AUDIT, one record more
+abbrev auditedFrom : ℕ → Frontend → List Record → Frontend
+auditedFrom f a rs = foldl (λ b r. notedBy f r b) a rs
+
 pub audited-more : (f : ℕ) (a : Frontend) (rs : List Record) (r : Record) → auditedFrom f a (rs ++ (r ∷ [])) ≡ notedBy f r (auditedFrom f a rs)
 audited-more f a [] r = refl
 audited-more f a (q ∷ rs) r = audited-more f (notedBy f q a) rs r
 
 -- a joiner's opening changes nothing
 joined-still : (r : Record) → r .kind ≡ 2 → (a : Frontend) → closedBy r a ≡ a
-joined-still r e unheld = refl
-joined-still r e (heldBy n) = rw e
-joined-still r e (letGo n c) = refl
+joined-still r e a = rw e
 
 -- after a session's closing it holds nothing there, and every other holds what it held
 none-step : (r : Record) → r .kind ≡ 3 → (m : ℕ) → Same (r .session) m → isHolder (r .session) (closedBy r (heldBy m)) ≡ false
@@ -66,15 +74,15 @@ none-step r e m (same q) = rw (e, eq-eqb (r .session) m q)
 none-step r e m (other q) = rw (e, ne-eqb (r .session) m q) (ne-eqb m (r .session) (λ z. q (sym z)))
 
 closed-none : (r : Record) → r .kind ≡ 3 → (a : Frontend) → isHolder (r .session) (closedBy r a) ≡ false
-closed-none r e unheld = refl
-closed-none r e (letGo m c) = refl
+closed-none r e unheld = rw e
+closed-none r e (letGo m c) = rw e
 closed-none r e (heldBy m) = none-step r e m (sames (r .session) m)
 
 closed-others : (r : Record) (n : ℕ) → (r .session ≡ n → ⊥) → (a : Frontend) → isHolder n (closedBy r a) ≡ isHolder n a
-closed-others r n h unheld = refl
-closed-others r n h (letGo m c) = refl
+closed-others r n h unheld = rw (and-false (eqb (r .kind) 3))
+closed-others r n h (letGo m c) = rw (and-false (eqb (r .kind) 3))
 closed-others r n h (heldBy m) =
-    cond-keeps (λ (a : Frontend). isHolder n a ≡ eqb m n) (eqb (r .kind) 3 && eqb (r .session) m) (letGo m (r .clock)) (heldBy m)
+    cond-keeps (λ (a : Frontend). isHolder n a ≡ eqb m n) (eqb (r .kind) 3 && eqb (r .session) m) (letGo (r .session) (r .clock)) (heldBy m)
     (λ y. sym (ne-eqb m n (λ q. h (eqb-true _ _ (and-both (eqb (r .kind) 3) _ y .1) ∙ q)))) (λ y. refl)
 
 -- the record of a closing

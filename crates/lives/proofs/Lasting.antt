@@ -1,14 +1,15 @@
 -- Nothing is closed in a call but what expires, loses its owner or is torn down, and the closings that are written bear the causes of document 01.
 -- Assumes nothing.
 use mathlib.Core.Path.{_≡_, refl, sym, _∙_, ap, subst}
-use mathlib.Core.Bool.{true, false}
+use mathlib.Core.Bool.{true, false, _&&_}
 use mathlib.Core.List.{List, [], _∷_, _++_, map, map-append, append-nil}
 use mathlib.Core.Logic.{_⊎_, inl, inr}
 use Prim.Native.Nat.{ℕ, max}
 use native.Mathlib.Omega.{arith}
 use lib.Seq.{getD-set-other}
+use borrow.Author.Tests.{eq-eqb, eqb-true}
 use Rattle.scan.specs.Lists.{first}
-use Rattle.scan.proofs.Bools.{and-both, Case, is, isnt, case, cond-keeps}
+use Rattle.scan.proofs.Bools.{and-both, both, or-right, Case, is, isnt, case, cond-keeps}
 use Rattle.aim.specs.declared.Method.{Method}
 use Rattle.aim.specs.declared.Method.the-variants.{Options, Setup, Play, Teardown, Other}
 use Rattle.reader.specs.Request.{methodOf}
@@ -16,7 +17,7 @@ use Rattle.journal.specs.declared.Record.{Record}
 use Rattle.stream.specs.Streams.{pastStream}
 use Rattle.stream.specs.declared.Stream.{Stream}
 use Rattle.table.specs.Counts.{any, count}
-use Rattle.table.specs.Table.{noSession, isOpen, sessionAt, owns}
+use Rattle.table.specs.Table.{noSession, has, isOpen, sessionAt, isOn, owns}
 use Rattle.finding.specs.Finding.{lowestPlace, lowestId}
 use Rattle.table.specs.declared.Session.{Session}
 use Rattle.table.specs.declared.SatBox.{SatBox}
@@ -35,9 +36,9 @@ use Rattle.satbox.specs.Requests.{requested, replied}
 use Rattle.closings.proofs.Keeping.{Whole, clock-whole}
 use Rattle.satbox.proofs.Kept.{sweeping-whole}
 use Rattle.promises.proofs.Requests.{answered-still}
-use Rattle.lives.specs.Calls.{Lent, Call, request, tick, collect, order, outcomeOf, satboxAfter, recordsIn}
+use Rattle.lives.specs.Calls.{Lent, Call, request, tick, collect, order, comes}
 use Rattle.lives.specs.Causes.{takes, saysClosed, unnumbered, sweepClosings, teardownClosings}
-use Rattle.lives.specs.Closed.{placeNamedBy, Sweeps, in-request, in-tick, Stays, TearsDown, in-teardown, Ends, expired, ownerless, torn}
+use Rattle.lives.specs.Closed.{placeNamedBy, Sweeps, in-request, in-tick, Stays, TearsDown, in-teardown, Ends, expired, torn}
 use Rattle.lives.proofs.Requests.{Kin, Retuned, retuned-same, answered-holds}
 use Rattle.lives.proofs.Seating.{place-free}
 use Rattle.lives.proofs.Taking.{one-owner, closing-took}
@@ -146,13 +147,20 @@ module _ (t : SatBox) (j : List ℕ) (w : Whole t) (i : ℕ) (some : isOpen (ses
       let one : count (owns id) (t .sessions) ≡ 1 = w .formed .seats .owners id live in
       first-passes (owns id) (t .sessions) noSession (first-some (owns id) (t .sessions) (omega arith))
 
+  owner-takes : takes (sessionAt t owner) (sessionAt t i) ≡ true
+  owner-takes =
+      let s = sessionAt t i in
+      let r = sessionAt t owner in
+      let q : r .stream ≡ s .stream = eqb-true _ _ (and-both (isOpen r) _ (and-both (isOn (s .stream) r) _ owner-owns .0) .1) in
+      or-right (has (s .number) r) (subst (λ id. owns id r && isOn id s ≡ true) (sym q) (both owner-owns (both some (eq-eqb (s .stream) (s .stream) refl))))
+
   -- by a sweep
   swept-ends : {clock : ℕ} {c : Call} → Sweeps clock c → Ends t i c ⊎ Stays t i (sweeping clock t .satbox)
   swept-ends {clock} {c} sweeps = by (case _) (case _)
     where
       by : Case (isExpired (max (t .clock) clock) (sessionAt t i)) → Case (isExpired (max (t .clock) clock) (sessionAt t owner)) → Ends t i c ⊎ Stays t i (sweeping clock t .satbox)
-      by (is y) o = inl (expired sweeps y)
-      by (isnt y) (is z) = inl (ownerless owner sweeps owner-owns z)
+      by (is y) o = inl (expired i sweeps y (rw (eq-eqb (sessionAt t i .number) (sessionAt t i .number) refl)))
+      by (isnt y) (is z) = inl (expired owner sweeps z owner-takes)
       by (isnt y) (isnt z) =
           inr (stays-in clock t w i some y (λ m own. subst (λ k. isExpired (max (t .clock) clock) (sessionAt t k) ≡ false) (one-owner t w (sessionAt t i .stream) owner m owner-owns own) z))
 
@@ -198,18 +206,18 @@ module _ (t : SatBox) (j : List ℕ) (w : Whole t) (i : ℕ) (some : isOpen (ses
       answered-ends s clock address draw b l e (fared s address draw (sweeping clock t .satbox) (sweeping-whole clock t w))
 
   -- IN A CALL, refused or not
-  pub ends-in : (c : Call) → (There (satboxAfter c t j) → ⊥) → Ends t i c
+  pub ends-in : (c : Call) → (There (comes c t j .satbox) → ⊥) → Ends t i c
   unfolding replied ticked collected emptied
   ends-in (request s clock address draw b l) gone =
-      done-ends (outcomeOf (request s clock address draw b l) t j) (requested s clock address draw t .did .satbox) (request-ends s clock address draw b l (swept-ends in-request)) gone
-  ends-in (tick clock l) gone = done-ends (outcomeOf (tick clock l) t j) (sweeping clock t .satbox) (tick-ends clock (swept-ends in-tick)) gone
-  ends-in (collect b l) gone = done-ends (outcomeOf (collect b l) t j) (emptied t) (inr refl) gone
+      done-ends (comes (request s clock address draw b l) t j .outcome) (requested s clock address draw t .did .satbox) (request-ends s clock address draw b l (swept-ends in-request)) gone
+  ends-in (tick clock l) gone = done-ends (comes (tick clock l) t j .outcome) (sweeping clock t .satbox) (tick-ends clock (swept-ends in-tick)) gone
+  ends-in (collect b l) gone = done-ends (comes (collect b l) t j .outcome) (emptied t) (inr refl) gone
   ends-in (order n) gone = absurd (gone refl)
 
 -- THE RECORDS of a TEARDOWN that is answered 200
-pub torn-text : (s : List ℕ) (clock address draw : ℕ) (b : List ℕ) (l : Lent) (t : SatBox) (j : List ℕ) → Whole t → outcomeOf (request s clock address draw b l) t j ≡ Done
+pub torn-text : (s : List ℕ) (clock address draw : ℕ) (b : List ℕ) (l : Lent) (t : SatBox) (j : List ℕ) → Whole t → comes (request s clock address draw b l) t j .outcome ≡ Done
     → methodOf s ≡ Teardown → isPassed (requested s clock address draw t .case) ≡ true
-    → map unnumbered (recordsIn (request s clock address draw b l) t j)
+    → map unnumbered (comes (request s clock address draw b l) t j .records)
     ≡ sweepClosings (atClock clock t) ++ teardownClosings (sweeping clock t .satbox) (placeNamedBy s (sweeping clock t .satbox))
 unfolding requested
 torn-text s clock address draw b l t j w done e y =
@@ -231,7 +239,7 @@ unfolding requested
 fared-text s clock address draw t n (tore e y) = absurd (n e y)
 fared-text s clock address draw t n (lasted k) = (answered s address draw (sweeping clock t .satbox) .did .records, refl, k .opens)
 
-pub else-text : {clock : ℕ} {c : Call} → Sweeps clock c → (t : SatBox) (j : List ℕ) → Whole t → outcomeOf c t j ≡ Done → (TearsDown t c → ⊥) → Opens t clock (recordsIn c t j)
+pub else-text : {clock : ℕ} {c : Call} → Sweeps clock c → (t : SatBox) (j : List ℕ) → Whole t → comes c t j .outcome ≡ Done → (TearsDown t c → ⊥) → Opens t clock (comes c t j .records)
 else-text (in-request {s = s} {clock = clock} {address = address} {draw = draw}) t j w done n =
     subst (λ (o : Outcome). Opens t clock (ifDone o (requested s clock address draw t .did .records) [])) (sym done)
     (fared-text s clock address draw t (λ e y. n (in-teardown e y)) (fared s address draw (sweeping clock t .satbox) (sweeping-whole clock t w)))

@@ -1,21 +1,21 @@
 -- Where a history says that a frontend was let go, there was a moment at which its table let it go, at that clock. Assumes nothing.
 use mathlib.Core.Path.{_≡_, refl, sym, _∙_, ap}
-use mathlib.Core.Bool.{_&&_}
+use mathlib.Core.Bool.{_&&_, and-false}
 use mathlib.Core.List.{List, [], _∷_, _++_}
 use mathlib.Core.Logic.{_⊎_, inl, inr}
 use Prim.Native.Nat.{ℕ}
 use native.Mathlib.Omega.{arith}
 use lib.Dec.{eqb}
-use borrow.Author.Tests.{eq-eqb}
-use Rattle.scan.proofs.Bools.{cond-keeps}
+use borrow.Author.Tests.{eq-eqb, eqb-true}
+use Rattle.scan.proofs.Bools.{and-both, cond-keeps}
 use Rattle.journal.specs.declared.Record.{Record}
 use Rattle.table.specs.Table.{sessionAt}
 use Rattle.table.specs.declared.SatBox.{SatBox}
 use Rattle.closings.specs.Did.{Did, reseated, noting, recordOf}
 use Rattle.closings.specs.Closing.{closeOne}
-use Rattle.lives.specs.Audit.{Frontend, unheld, heldBy, letGo, closedBy, notedBy, audited, isHolder, Agree}
-use Rattle.lives.specs.Moments.{Notes, opens, joins, closes, Leads, begun, quiet, noted, LetGo}
-use Rattle.lives.proofs.Keepers.{audited-more}
+use Rattle.lives.specs.Audit.{Frontend, unheld, heldBy, letGo, closedBy, notedBy, audited, Agree}
+use Rattle.lives.specs.Moments.{Notes, opensAsOwner, joins, closes, Leads, begun, quiet, noted, LetGo, lets}
+use Rattle.lives.proofs.Keepers.{audited-more, isHolder}
 use Rattle.lives.proofs.Chains.{leads-agree, leads-then}
 
 -- nobody has let go what nobody has held
@@ -32,12 +32,15 @@ module _ (f n clock : ℕ) (r : Record) where
 
   closed-held : (m : ℕ) → closedBy r (heldBy m) ≡ letGo n clock → Before (heldBy m)
   closed-held m =
-      cond-keeps (λ (b : Frontend). b ≡ letGo n clock → Before (heldBy m)) (eqb (r .kind) 3 && eqb (r .session) m) (letGo m (r .clock)) (heldBy m)
-      (λ y e. let p : m ≡ n = cc in let q : r .clock ≡ clock = cc in inr (ap heldBy p, q)) (λ y e. held-not e)
+      cond-keeps (λ (b : Frontend). b ≡ letGo n clock → Before (heldBy m)) (eqb (r .kind) 3 && eqb (r .session) m) (letGo (r .session) (r .clock)) (heldBy m)
+      (λ y e.
+      let p : r .session ≡ n = cc in
+      let q : r .clock ≡ clock = cc in
+      inr (ap heldBy (sym (eqb-true _ _ (and-both (eqb (r .kind) 3) _ y .1)) ∙ p), q)) (λ y e. held-not e)
 
   closed-before : (a : Frontend) → closedBy r a ≡ letGo n clock → Before a
-  closed-before unheld e = inl e
-  closed-before (letGo m c) e = inl e
+  closed-before unheld e = inl (rw (and-false (eqb (r .kind) 3)) at e)
+  closed-before (letGo m c) e = inl (rw (and-false (eqb (r .kind) 3)) at e)
   closed-before (heldBy m) e = closed-held m e
 
   noted-before : (a : Frontend) → notedBy f r a ≡ letGo n clock → Before a
@@ -53,42 +56,21 @@ record-noted f n clock k r e = noted-before f n clock r (audited f k) (sym (audi
 note-noted : {u : SatBox} {d : Did} → Notes u d → (f n clock : ℕ) (k : List Record) → audited f (k ++ d .records) ≡ letGo n clock
     → (audited f k ≡ letGo n clock) ⊎ ((audited f k ≡ heldBy n) × (d .satbox .clock ≡ clock))
 unfolding closeOne noting reseated
-note-noted {u} (opens s place b p q o) f n clock k e = record-noted f n clock k (recordOf 1 0 s u) e
+note-noted {u} (opensAsOwner s place b p q o) f n clock k e = record-noted f n clock k (recordOf 1 0 s u) e
 note-noted {u} (joins s place b p q o) f n clock k e = record-noted f n clock k (recordOf 2 0 s u) e
 note-noted {u} (closes cause place p) f n clock k e = record-noted f n clock k (recordOf 3 cause (sessionAt u place) u) e
 
 module _ (f n clock : ℕ) (z : f ≡ 0 → ⊥) {h : List Record} {t : SatBox} (new : audited f h ≡ letGo n clock → ⊥) where
   -- a chain that goes on after it
   on : {k l : List Record} {u v : SatBox} → Leads k u l v → LetGo h t k u f n clock → LetGo h t l v f n clock
-  on p m =
-      record {
-        past = m .past;
-        before = m .before;
-        closing = m .closing;
-        reached = m .reached;
-        notes = m .notes;
-        onward = leads-then (m .onward) p;
-        held = m .held;
-        freed = m .freed;
-        when = m .when;
-      }
+  on p (lets a c y n q b) = lets a c y n q (leads-then b p)
 
   at-noted : {k : List Record} {u : SatBox} {d : Did} → Leads h t k u → Notes u d → Agree (k ++ d .records) (d .satbox) → audited f (k ++ d .records) ≡ letGo n clock
       → (audited f k ≡ letGo n clock → LetGo h t k u f n clock) → (audited f k ≡ letGo n clock) ⊎ ((audited f k ≡ heldBy n) × (d .satbox .clock ≡ clock))
       → LetGo h t (k ++ d .records) (d .satbox) f n clock
   at-noted p c g e ih (inl q) = on (noted (begun (leads-agree p)) c g) (ih q)
-  at-noted {k} {u} {d} p c g e ih (inr q) =
-      record {
-        past = k;
-        before = u;
-        closing = d;
-        reached = p;
-        notes = c;
-        onward = begun g;
-        held = leads-agree p .same f n z ∙ (ap (isHolder n) (q .0) ∙ eq-eqb n n refl);
-        freed = g .same f n z ∙ ap (isHolder n) e;
-        when = q .1;
-      }
+  at-noted p c g e ih (inr q) =
+      lets p c (leads-agree p .same f n z ∙ (ap (isHolder n) (q .0) ∙ eq-eqb n n refl)) (g .same f n z ∙ ap (isHolder n) e) (q .1) (begun g)
 
   -- THE MOMENT
   pub let-go : {k : List Record} {u : SatBox} → Leads h t k u → audited f k ≡ letGo n clock → LetGo h t k u f n clock

@@ -7,6 +7,7 @@ use mathlib.Core.List.{List, [], _∷_, _++_, map}
 use mathlib.Core.Logic.{_↔_}
 use Prim.Native.Nat.{ℕ, _+_, _*_, _%_, _≤_, _<_, max}
 use native.Mathlib.Omega.{arith}
+use lib.Dec.{eqb}
 use lib.ListN.{length, take, getD}
 use Rattle.scan.specs.Lists.{all}
 use Rattle.aim.specs.declared.Method.the-variants.{Options, Teardown}
@@ -15,7 +16,7 @@ use Rattle.reader.specs.Request.{methodOf, requestRefusal}
 use Rattle.journal.specs.Calls.{readAt}
 use Rattle.journal.specs.declared.Record.{Record}
 use Rattle.journal.specs.declared.Reading.the-variants.{Sound}
-use Rattle.table.specs.Counts.{any}
+use Rattle.table.specs.Counts.{any, count}
 use Rattle.table.specs.Table.{isOpen, opens, sessionAt, isOn, owns}
 use Rattle.table.specs.Formed.{wellFormed}
 use Rattle.finding.specs.Finding.{isHeld}
@@ -31,13 +32,13 @@ use Rattle.closings.specs.Closing.{isExpired, atClock, sweeping}
 use Rattle.satbox.specs.Requests.{requested, replied}
 use Rattle.closings.proofs.DoesLaws.{bytes-append}
 use Rattle.closings.proofs.Keeping.{whole-formed}
-use Rattle.lives.specs.Calls.{Lent, Call, request, outcomeOf, refusedBy, satboxAfter, journalAfter, recordsIn, uncollected, lacksJournal, isCall}
+use Rattle.lives.specs.Calls.{Lent, Call, request, order, refusedBy, comes, lacksJournal, isCall}
 use Rattle.lives.specs.Runs.{Life, live, run, recordsOf, Lives, after}
-use Rattle.lives.specs.Closed.{Closed, isClosingOf, isTimeOut, Fares, placeNamedBy, isKeepAlive, Sweeps, Stays, TearsDown, Ends}
-use Rattle.lives.specs.Causes.{saysClosed, unnumbered, sweepClosings, teardownClosings}
+use Rattle.lives.specs.Closed.{Closed, isClosingOf, isTimeOut, Fares, placeNamedBy, KeepsAlive, Sweeps, Stays, TearsDown, Ends}
+use Rattle.lives.specs.Causes.{saysClosed, saysOpened, unnumbered, sweepClosings, teardownClosings}
 use Rattle.lives.specs.Openings.{PassesElse}
-use Rattle.lives.specs.Audit.{letGo, audited, isTaken, isHolder, holds}
-use Rattle.lives.specs.Moments.{Quiet, Notes, Leads, LetGo, openings, closings}
+use Rattle.lives.specs.Audit.{letGo, isHeldBy, audited, holds}
+use Rattle.lives.specs.Moments.{Quiet, Notes, Leads, LetGo}
 use Rattle.lives.proofs.Journals.{counts-at, counts-next}
 use Rattle.lives.proofs.Running.{live-good, after-good, swept-fed, swept-sized}
 use Rattle.lives.proofs.Refusals.{call-gated}
@@ -63,12 +64,12 @@ module _ (frontends size : ℕ) (j : List ℕ) (cs : List Call) where
     pub well-formed : wellFormed (x .satbox) ≡ true
     well-formed = whole-formed (x .satbox) (after-good h .whole)
 
-    -- so that no call is refused with 1, whatever it is called with (`outcomeOf`, `refusedBy`: document 01's numbers),
-    pub never-refused-by-1 : (c : Call) → refusedBy (outcomeOf c (x .satbox) (x .journal)) ≡ 1 → ⊥
+    -- so that no call is refused with 1, whatever it is called with (`comes`, `refusedBy`: document 01's numbers),
+    pub never-refused-by-1 : (c : Call) → refusedBy (comes c (x .satbox) (x .journal) .outcome) ≡ 1 → ⊥
     never-refused-by-1 c = call-gated (x .satbox) well-formed (x .journal) c .0
 
     -- and with 2 exactly if it is lent a journal of another length (`lacksJournal`)
-    pub refused-by-2-for-length : (c : Call) → (refusedBy (outcomeOf c (x .satbox) (x .journal)) ≡ 2) ↔ (lacksJournal size c (x .journal) ≡ true)
+    pub refused-by-2-for-length : (c : Call) → (refusedBy (comes c (x .satbox) (x .journal) .outcome) ≡ 2) ↔ (lacksJournal size c (x .journal) ≡ true)
     refused-by-2-for-length c =
         rw (after-good h .sized) at (call-gated (x .satbox) well-formed (x .journal) c .1)
 
@@ -77,7 +78,7 @@ module _ (frontends size : ℕ) (j : List ℕ) (cs : List Call) where
     journal-has-its-length = after-good h .journal
 
     -- 2. THE JOURNAL'S FIRST BYTES HELD ARE EXACTLY THE RECORDS, in order, of the openings and closings since the last collection: `since`, which
-    -- the rules give for each call (`recordsIn`) and which is not read off the bytes held; their bytes are `bytesOf`,
+    -- the rules give for each call (`Comes.records`) and which is not read off the bytes held; their bytes are `bytesOf`,
     pub journal-holds-the-records : take (x .satbox .held) (x .journal) ≡ bytesOf (x .since)
     journal-holds-the-records = after-good h .text
 
@@ -94,10 +95,10 @@ module _ (frontends size : ℕ) (j : List ℕ) (cs : List Call) where
     pub sequence-to-come : x .satbox .sequence ≡ length (x .history) % 65536
     sequence-to-come = counts-next 0 (x .satbox .sequence) (x .history) (omega arith) (after-good h .sequence) ∙ omega arith
 
-    -- A call's own records stand behind those of the calls before it (`uncollected`: those that are not collected by it)
+    -- A call's own records stand behind those of the calls before it (`left`: those that are not collected by it)
     pub call-writes-its-records : (c : Call) → isCall size c ≡ true
-        → take (satboxAfter c (x .satbox) (x .journal) .held) (journalAfter c (x .satbox) (x .journal))
-        ≡ bytesOf (uncollected c (x .satbox) (x .journal) (x .since) ++ recordsIn c (x .satbox) (x .journal))
+        → take (comes c (x .satbox) (x .journal) .satbox .held) (comes c (x .satbox) (x .journal) .journal)
+        ≡ bytesOf (comes c (x .satbox) (x .journal) .left (x .since) ++ comes c (x .satbox) (x .journal) .records)
     unfolding live
     call-writes-its-records c e = live-good (after-good h) c e .text
 
@@ -106,21 +107,21 @@ module _ (frontends size : ℕ) (j : List ℕ) (cs : List Call) where
     room-for-every-closing = omega (arith, after-good h .whole .formed .fits .bound, after-good h .sized)
 
     -- 4. NO CLOSING IS EVER HELD BACK, in a request or a tick at any clock (`Sweeps`) that was not refused by number: of the sessions open before it
-    module _ (clock : ℕ) (c : Call) (sweeps : Sweeps clock c) (done : outcomeOf c (x .satbox) (x .journal) ≡ Done) where
-      -- each that has expired at the clock used is closed by its sweep, and its record is there (`Closed`; the records of the call are `recordsIn`,
+    module _ (clock : ℕ) (c : Call) (sweeps : Sweeps clock c) (done : comes c (x .satbox) (x .journal) .outcome ≡ Done) where
+      -- each that has expired at the clock used is closed by its sweep, and its record is there (`Closed`; the records of the call are `records`,
       -- which `since` then ends with),
       pub expired-is-closed : (i : ℕ) → isExpired (max (x .satbox .clock) clock) (sessionAt (x .satbox) i) ≡ true
-          → Closed (x .satbox) i (sweeping clock (x .satbox) .satbox) (recordsIn c (x .satbox) (x .journal))
+          → Closed (x .satbox) i (sweeping clock (x .satbox) .satbox) (comes c (x .satbox) (x .journal) .records)
       expired-is-closed = expired-in clock c sweeps (x .satbox) (x .journal) done (after-good h .whole)
 
       -- and so is each whose stream loses its owner, at whatever place m
       pub ownerless-is-closed : (i m : ℕ) → isOpen (sessionAt (x .satbox) i) ≡ true
           → owns (sessionAt (x .satbox) i .stream) (sessionAt (x .satbox) m) ≡ true → isExpired (max (x .satbox .clock) clock) (sessionAt (x .satbox) m) ≡ true
-          → Closed (x .satbox) i (sweeping clock (x .satbox) .satbox) (recordsIn c (x .satbox) (x .journal))
+          → Closed (x .satbox) i (sweeping clock (x .satbox) .satbox) (comes c (x .satbox) (x .journal) .records)
       ownerless-is-closed = lost-in clock c sweeps (x .satbox) (x .journal) done (after-good h .whole)
 
       -- and after the call nothing that is open has expired
-      pub none-expired-is-open : (i : ℕ) → isExpired (max (x .satbox .clock) clock) (sessionAt (satboxAfter c (x .satbox) (x .journal)) i) ≡ false
+      pub none-expired-is-open : (i : ℕ) → isExpired (max (x .satbox .clock) clock) (sessionAt (comes c (x .satbox) (x .journal) .satbox) i) ≡ false
       none-expired-is-open = young-after sweeps (x .satbox) (x .journal) done (after-good h .whole)
 
     -- AND NOTHING ELSE CLOSES: a sweep at any clock leaves whoever has not expired, and whose stream's owner has not, where it was, as it was, and its
@@ -136,7 +137,7 @@ module _ (frontends size : ℕ) (j : List ℕ) (cs : List Call) where
     sweep-causes clock = sweeping-text clock (x .satbox) (after-good h .whole)
 
     -- In a TEARDOWN that is answered 200, after the sweep, the session that it names is closed too (`placeNamedBy`)
-    module _ (s : List ℕ) (clock address draw : ℕ) (b : List ℕ) (l : Lent) (done : outcomeOf (request s clock address draw b l) (x .satbox) (x .journal) ≡ Done)
+    module _ (s : List ℕ) (clock address draw : ℕ) (b : List ℕ) (l : Lent) (done : comes (request s clock address draw b l) (x .satbox) (x .journal) .outcome ≡ Done)
         (tears : methodOf s ≡ Teardown) (passed : isPassed (requested s clock address draw (x .satbox) .case) ≡ true) where
       abbrev v : SatBox
       v = sweeping clock (x .satbox) .satbox
@@ -147,30 +148,30 @@ module _ (frontends size : ℕ) (j : List ℕ) (cs : List Call) where
       abbrev c : Call
       c = request s clock address draw b l
 
-      pub torn-down-is-closed : Closed v place (satboxAfter c (x .satbox) (x .journal)) (recordsIn c (x .satbox) (x .journal))
+      pub torn-down-is-closed : Closed v place (comes c (x .satbox) (x .journal) .satbox) (comes c (x .satbox) (x .journal) .records)
       unfolding replied
       torn-down-is-closed = torn-in s clock address draw b l (x .satbox) (x .journal) done (after-good h .whole) tears passed
 
       -- and with an owner each that was on its stream
       pub left-by-owner-is-closed : (sessionAt v place .owner ≡ 0 → ⊥) → (i : ℕ) → isOn (sessionAt v place .stream) (sessionAt v i) ≡ true
-          → Closed v i (satboxAfter c (x .satbox) (x .journal)) (recordsIn c (x .satbox) (x .journal))
+          → Closed v i (comes c (x .satbox) (x .journal) .satbox) (comes c (x .satbox) (x .journal) .records)
       unfolding replied
       left-by-owner-is-closed = left-in s clock address draw b l (x .satbox) (x .journal) done (after-good h .whole) tears passed
 
       -- and its records are those of its sweep, and then cause 1 of the one that it names and 3 of each that this takes along (`teardownClosings`)
-      pub teardown-causes : map unnumbered (recordsIn c (x .satbox) (x .journal))
+      pub teardown-causes : map unnumbered (comes c (x .satbox) (x .journal) .records)
           ≡ sweepClosings (atClock clock (x .satbox)) ++ teardownClosings v place
       teardown-causes = torn-text s clock address draw b l (x .satbox) (x .journal) (after-good h .whole) done tears passed
 
     -- Of the sessions open before a call, whichever it is, refused or not, one that is not at its place with its number after it had expired, had lost
     -- its owner or was torn down (`Ends`),
     pub nothing-else-closes : (c : Call) (i : ℕ) → isOpen (sessionAt (x .satbox) i) ≡ true
-        → (sessionAt (satboxAfter c (x .satbox) (x .journal)) i .number ≡ sessionAt (x .satbox) i .number → ⊥) → Ends (x .satbox) i c
+        → (sessionAt (comes c (x .satbox) (x .journal) .satbox) i .number ≡ sessionAt (x .satbox) i .number → ⊥) → Ends (x .satbox) i c
     nothing-else-closes c i some = ends-in (x .satbox) (x .journal) (after-good h .whole) i some c
 
     -- and where it is no TEARDOWN answered 200 (`TearsDown`), what it writes after the records of its sweep is no closing
-    pub no-other-closing-is-written : (clock : ℕ) (c : Call) → Sweeps clock c → outcomeOf c (x .satbox) (x .journal) ≡ Done → (TearsDown (x .satbox) c → ⊥)
-        → (rest : List Record) × (recordsIn c (x .satbox) (x .journal) ≡ sweeping clock (x .satbox) .records ++ rest) × (any saysClosed rest ≡ false)
+    pub no-other-closing-is-written : (clock : ℕ) (c : Call) → Sweeps clock c → comes c (x .satbox) (x .journal) .outcome ≡ Done → (TearsDown (x .satbox) c → ⊥)
+        → (rest : List Record) × (comes c (x .satbox) (x .journal) .records ≡ sweeping clock (x .satbox) .records ++ rest) × (any saysClosed rest ≡ false)
     no-other-closing-is-written clock c sweeps = else-text sweeps (x .satbox) (x .journal) (after-good h .whole)
 
     -- WHO IS KEPT: a session that an OPTIONS answered 200 names, in the box after expired sessions are closed; after this call and any others
@@ -187,7 +188,7 @@ module _ (frontends size : ℕ) (j : List ℕ) (cs : List Call) where
       abbrev kept : Session
       kept = sessionAt (sweeping clock (x .satbox) .satbox) seat
 
-      module _ (calls : all (isCall size) (options ∷ ds) ≡ true) (done : outcomeOf options (x .satbox) (x .journal) ≡ Done) (keep : methodOf s ≡ Options)
+      module _ (calls : all (isCall size) (options ∷ ds) ≡ true) (done : comes options (x .satbox) (x .journal) .outcome ≡ Done) (keep : methodOf s ≡ Options)
           (passed : isPassed (requested s clock address draw (x .satbox) .case) ≡ true) (named : seat < 32) where
         -- is not closed for its age before the clock used plus 60: each record of those others that says so (`isTimeOut`) has that clock or a later one,
         pub kept-is-not-timed-out : (i : ℕ) (past : Record) → i < length (recordsOf ds y) → isTimeOut (kept .number) (getD (recordsOf ds y) i past) ≡ true
@@ -198,9 +199,9 @@ module _ (frontends size : ℕ) (j : List ℕ) (cs : List Call) where
         pub kept-stays : Fares (kept .number) seat (λ last. max (x .satbox .clock) clock ≤ last) (run ds y .satbox) (recordsOf ds y)
         kept-stays = kept-fares (after-good h) s clock address draw b l done keep passed named ds calls
 
-    -- WHO IS NOT: an open session, after any calls of which none is an OPTIONS that has its number (`isKeepAlive`)
+    -- WHO IS NOT: an open session, after any calls of which none is an OPTIONS that has its number (`KeepsAlive`; past their last there is an order)
     module _ (i : ℕ) (some : isOpen (sessionAt (x .satbox) i) ≡ true) (ds : List Call) (calls : all (isCall size) ds ≡ true)
-        (unkept : any (isKeepAlive (sessionAt (x .satbox) i .number)) ds ≡ false) where
+        (unkept : (k : ℕ) → KeepsAlive (sessionAt (x .satbox) i .number) (getD ds k (order 0)) → ⊥) where
       -- is open at its place, with the last time that it had, or one of the records says that it closed,
       pub unkept-stays : Fares (sessionAt (x .satbox) i .number) i (λ last. last ≡ sessionAt (x .satbox) i .last) (run ds x .satbox) (recordsOf ds x)
       unkept-stays = unkept-fares (after-good h) (after-young h) i some ds calls unkept
@@ -246,11 +247,11 @@ module _ (frontends size : ℕ) (j : List ℕ) (cs : List Call) where
 
     -- 7. THE AUDITOR'S THREE QUESTIONS HAVE ANSWERS from the history alone (`audited`, which reads nothing but records):
     -- the frontends held, which are those that the table's streams have;
-    pub held-frontends : (f : ℕ) → (f ≡ 0 → ⊥) → isHeld f (x .satbox .streams) ≡ isTaken (audited f (x .history))
+    pub held-frontends : (f : ℕ) → (f ≡ 0 → ⊥) → isHeld f (x .satbox .streams) ≡ isHeldBy (λ n. true) (audited f (x .history))
     held-frontends f z = held-agrees (x .history) (x .satbox) (after-good h .whole) (leads-agree (after-leads h)) f z
 
     -- the session that owns each, which is the open session that owns its stream (`holds`);
-    pub owner-of-each : (f n : ℕ) → (f ≡ 0 → ⊥) → holds (x .satbox) f n ≡ isHolder n (audited f (x .history))
+    pub owner-of-each : (f n : ℕ) → (f ≡ 0 → ⊥) → holds (x .satbox) f n ≡ isHeldBy (λ m. eqb m n) (audited f (x .history))
     owner-of-each = leads-agree (after-leads h) .same
 
     -- and for each that let go, when: at that record the table's session let it go, at that clock of the table (`LetGo`)
@@ -264,14 +265,14 @@ module _ (frontends size : ℕ) (j : List ℕ) (cs : List Call) where
     agree-at-every-record = after-leads h
 
     -- no record is of nobody: the step that writes one opens one session more or closes one, no other step does, and so as many are open as the
-    -- history has openings less closings (`openings`, `closings`)
-    pub each-record-is-of-one : {t : SatBox} {d : Did} → Notes t d → opens (d .satbox) + closings (d .records) ≡ opens t + openings (d .records)
+    -- history has openings less closings (`saysOpened`, `saysClosed`)
+    pub each-record-is-of-one : {t : SatBox} {d : Did} → Notes t d → opens (d .satbox) + count saysClosed (d .records) ≡ opens t + count saysOpened (d .records)
     each-record-is-of-one = note-moves-one
 
     pub no-other-step-opens-or-closes : {t u : SatBox} → Quiet t u → opens u ≡ opens t
     no-other-step-opens-or-closes = quiet-moves-none
 
-    pub open-are-the-opened-and-not-closed : opens (x .satbox) + closings (x .history) ≡ openings (x .history)
+    pub open-are-the-opened-and-not-closed : opens (x .satbox) + count saysClosed (x .history) ≡ count saysOpened (x .history)
     open-are-the-opened-and-not-closed = omega (arith, leads-count (after-leads h))
 
     -- and so is each call of it, from the box before it to the box after it

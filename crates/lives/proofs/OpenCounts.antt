@@ -1,12 +1,11 @@
 -- As many sessions are open as were opened and not closed: each record is of one session that comes or goes, and what writes nothing moves none.
 -- Assumes nothing.
 use mathlib.Core.Path.{_≡_, refl}
-use mathlib.Core.Bool.{Bool, not}
+use mathlib.Core.Bool.{Bool}
 use mathlib.Core.List.{List, [], _∷_, _++_}
 use Prim.Native.Nat.{ℕ, _+_, _<_}
 use native.Mathlib.Decide.{decLt}
 use native.Mathlib.Omega.{arith}
-use lib.Dec.{eqb}
 use lib.ListN.{length, set, List·getD-eq-default}
 use borrow.Author.Tests.{eq-eqb, ne-eqb}
 use Rattle.scan.proofs.Bools.{by-cases}
@@ -20,7 +19,8 @@ use Rattle.closings.specs.Did.{Did, restreamed, reseated, noting}
 use Rattle.closings.specs.Closing.{closeOne, atClock}
 use Rattle.satbox.specs.Calls.{emptied}
 use Rattle.serving.specs.Serving.{replaced}
-use Rattle.lives.specs.Moments.{Quiet, clocked, restream, retune, replace, empty, Notes, opens, joins, closes, Leads, begun, quiet, noted, openings, closings}
+use Rattle.lives.specs.Causes.{saysClosed, saysOpened}
+use Rattle.lives.specs.Moments.{Quiet, clocked, restream, retune, replace, empty, Notes, opensAsOwner, joins, closes, Leads, begun, quiet, noted}
 
 count-append : (p : Record → Bool) (h k : List Record) → count p (h ++ k) ≡ count p h + count p k
 count-append p [] k = omega arith
@@ -40,9 +40,9 @@ less t place some =
     (λ b. absurd (some (rw (List·getD-eq-default (t .sessions) noSession {n = place} (omega arith)))))
 
 -- EACH RECORD is of one session that opens or closes
-pub note-moves-one : {t : SatBox} {d : Did} → Notes t d → openIn (d .satbox) + closings (d .records) ≡ openIn t + openings (d .records)
+pub note-moves-one : {t : SatBox} {d : Did} → Notes t d → openIn (d .satbox) + count saysClosed (d .records) ≡ openIn t + count saysOpened (d .records)
 unfolding closeOne noting reseated
-note-moves-one {t} (opens s place b p q o) = omega (arith, one-more t s place (omega arith) p q)
+note-moves-one {t} (opensAsOwner s place b p q o) = omega (arith, one-more t s place (omega arith) p q)
 note-moves-one {t} (joins s place b p q o) = omega (arith, one-more t s place (omega arith) p q)
 note-moves-one {t} (closes cause place p) = omega (arith, less t place p)
 
@@ -55,8 +55,8 @@ quiet-moves-none (retune id m e) = refl
 quiet-moves-none {t} (replace place s n m o) = count-set-same isOpen (t .sessions) place s noSession (rw n)
 quiet-moves-none empty = refl
 
-pub leads-count : {h k : List Record} {t u : SatBox} → Leads h t k u → openIn u + closings k + openings h ≡ openIn t + openings k + closings h
+pub leads-count : {h k : List Record} {t u : SatBox} → Leads h t k u → openIn u + count saysClosed k + count saysOpened h ≡ openIn t + count saysOpened k + count saysClosed h
 leads-count (begun g) = omega arith
 leads-count (quiet p q g) = omega (arith, leads-count p, quiet-moves-none q)
 leads-count (noted {k = k} {d = d} p q g) =
-    omega (arith, leads-count p, note-moves-one q, count-append (λ r. not (eqb (r .kind) 3)) k (d .records), count-append (λ r. eqb (r .kind) 3) k (d .records))
+    omega (arith, leads-count p, note-moves-one q, count-append saysOpened k (d .records), count-append saysClosed k (d .records))

@@ -26,7 +26,7 @@ use Rattle.satbox.specs.Requests.{requestOutcome, requested, replied}
 use Rattle.closings.proofs.DoesLaws.{bytes-length}
 use Rattle.serving.proofs.RecordLaws.{Counts-on}
 use Rattle.lives.specs.Calls.{lent, Call, request, tick, collect, order, isShort, isCall}
-use Rattle.lives.specs.Runs.{Life, born, live, run, Lives, after}
+use Rattle.lives.specs.Runs.{Life, live, run, Lives, after}
 use Rattle.lives.proofs.Journals.{counts-at}
 use Rattle.lives.proofs.Fitting.{Short, isFit, Fits, all-both, sweeping-fits, requested-fits}
 use Rattle.lives.proofs.Holding.{Good, born-good}
@@ -127,7 +127,7 @@ free-place zero k = refl
 free-place (suc n) zero = refl
 free-place (suc n) (suc k) = free-place n k
 
-born-fitted : (frontends size : ℕ) (j : List ℕ) → Fitted (born frontends size j)
+born-fitted : (frontends size : ℕ) (j : List ℕ) → Fitted (after frontends size j [])
 born-fitted frontends size j =
     record { numbers = λ k. subst (λ (s : Session). s .number < 4294967296) (sym (free-place 32 k)) (omega arith); fit = refl }
 

@@ -23,7 +23,7 @@ use Rattle.orders.specs.Orders.{isFed, playsAsOwner, orderAt, orderFor, orderOf
 use Rattle.orders.specs.declared.Order.{Order}
 use Rattle.satbox.specs.Calls.{_else_andThen_, isJournal, ticked, collected}
 use Rattle.satbox.specs.Requests.{replied}
-use Rattle.lives.specs.Calls.{lent, Call, request, tick, collect, order, orderOutcome, outcomeOf, refusedBy, lacksJournal}
+use Rattle.lives.specs.Calls.{lent, Call, request, tick, collect, order, orderOutcome, refusedBy, comes, lacksJournal}
 
 -- what stands behind the tests of 1 and 2 refuses by neither
 abbrev Past : Outcome → Type 0
@@ -64,7 +64,7 @@ order-past t n f =
 
 -- EVERY CALL
 module _ (t : SatBox) (f : wellFormed t ≡ true) (j : List ℕ) where
-  pub call-gated : (c : Call) → Gated (lacksJournal (t .size) c j) (outcomeOf c t j)
+  pub call-gated : (c : Call) → Gated (lacksJournal (t .size) c j) (comes c t j .outcome)
   unfolding replied ticked collected
   call-gated (request s clock address draw b l) =
       gated (wellFormed t) (isJournal t (lent l j)) _ f (last-test (not (ltb (length b) 4096)) Answer (λ e. omega arith, λ e. omega arith))

@@ -47,7 +47,7 @@ module _ (t : SatBox) (a : Asked) (l : Lists) (p : PassesElse t a l) where
   seat-is-room = by (sames (sightOf t a .stream) 0)
     where
       by : Same (sightOf t a .stream) 0 → canSeat t (sightOf t a) ≡ hasRoom t
-      by (same z) = rw (eq-eqb (sightOf t a .stream) 0 z, p .place, rw (eq-eqb (sightOf t a .stream) 0 z) at (p .frontend))
+      by (same z) = rw (eq-eqb (sightOf t a .stream) 0 z, p .place, p .frontend z)
       by (other z) = rw (ne-eqb (sightOf t a .stream) 0 z, p .place, live z)
 
   case-is : caseOf t a l ≡ (not (hasRoom t) refuses Full or Passed)

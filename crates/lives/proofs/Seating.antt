@@ -26,8 +26,8 @@ use Rattle.serving.specs.Opening.{hasPlace, guest, seating, canJoin, canOpen}
 use Rattle.serving.specs.declared.opening.Client.{Client}
 use Rattle.closings.proofs.Keeping.{Whole}
 use Rattle.serving.proofs.OpeningKeeps.{new-feed, row}
-use Rattle.lives.specs.Audit.{Frontend, notedBy, audited, isHolder, keeps, Agree}
-use Rattle.lives.proofs.Keepers.{any-set-same, any-set-new, any-none, noted-joined, keeps-feed}
+use Rattle.lives.specs.Audit.{Frontend, notedBy, audited, Agree}
+use Rattle.lives.proofs.Keepers.{any-set-same, any-set-new, any-none, noted-joined, keeps-feed, isHolder, keeps}
 use Rattle.lives.proofs.Agreeing.{agree-noted, agree-freed}
 
 -- who owns nothing keeps nothing, and no free place does

@@ -19,7 +19,7 @@ use Rattle.serving.specs.declared.opening.Client.{Client}
 use Rattle.closings.proofs.Keeping.{Whole}
 use Rattle.satbox.proofs.Kept.{sweeping-whole}
 use Rattle.promises.proofs.Serving.{Alike}
-use Rattle.lives.specs.Moments.{restream, retune, replace, opens, joins, begun, quiet, noted}
+use Rattle.lives.specs.Moments.{restream, retune, replace, opensAsOwner, joins, begun, quiet, noted}
 use Rattle.lives.proofs.Requests.{Retuned, as-it-was, merged, answered-holds}
 use Rattle.lives.proofs.Agreeing.{agree-fed, agree-replaced}
 use Rattle.lives.proofs.Seating.{place-free, agree-joined, nobody, agree-new, agree-opened}
@@ -39,7 +39,7 @@ opening-watched m client t short w =
     let id = lowestId (t .streams) in
     let s = guest 1 id client t in
     cond-keeps (Watched t) (canOpen (m .frontend) t) (seated 1 s (restreamed id m t)) (nothing t)
-    (λ e h g. noted (quiet (begun g) (restream id m (nobody h m client t short e w g)) (agree-new h m client t short e w g)) (opens s (lowestPlace (t .sessions)) (omega (arith, place-free t (and-both (hasPlace t) _ e .0) .0)) (place-free t (and-both (hasPlace t) _ e .0) .1) (drawn-nonzero (t .sessions) (client .draw) (w .places) short) (λ q. omega arith)) (agree-opened h m client t short e w g))
+    (λ e h g. noted (quiet (begun g) (restream id m (nobody h m client t short e w g)) (agree-new h m client t short e w g)) (opensAsOwner s (lowestPlace (t .sessions)) (omega (arith, place-free t (and-both (hasPlace t) _ e .0) .0)) (place-free t (and-both (hasPlace t) _ e .0) .1) (drawn-nonzero (t .sessions) (client .draw) (w .places) short) (λ q. omega arith)) (agree-opened h m client t short e w g))
     (λ e. watched-nothing t)
 
 -- A SESSION CHANGED in its place, with a query merged or not

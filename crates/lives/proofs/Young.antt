@@ -26,7 +26,7 @@ use Rattle.satbox.specs.Requests.{requestOutcome, requested, replied}
 use Rattle.serving.specs.declared.opening.Client.{Client}
 use Rattle.closings.proofs.Keeping.{Whole, clock-whole}
 use Rattle.satbox.proofs.Kept.{sweeping-whole}
-use Rattle.lives.specs.Calls.{lent, Call, request, tick, collect, order, outcomeOf, satboxAfter, isCall}
+use Rattle.lives.specs.Calls.{lent, Call, request, tick, collect, order, comes, isCall}
 use Rattle.lives.specs.Runs.{Life, live, run, Lives, after}
 use Rattle.lives.specs.Closed.{Sweeps, in-request, in-tick}
 use Rattle.lives.proofs.Requests.{Kin, Retuned, retuned-same, answered-holds}
@@ -102,7 +102,7 @@ requested-young s clock address draw t w =
     subst (λ n. Young n (answered s address draw u .did .satbox)) c
     (answered-young s address draw u (sweeping-whole clock t w) (subst (λ n. Young n u) (sym c) (sweeping-young clock t w)))
 
-pub young-after : {clock : ℕ} {c : Call} → Sweeps clock c → (t : SatBox) (j : List ℕ) → outcomeOf c t j ≡ Done → Whole t → Young (max (t .clock) clock) (satboxAfter c t j)
+pub young-after : {clock : ℕ} {c : Call} → Sweeps clock c → (t : SatBox) (j : List ℕ) → comes c t j .outcome ≡ Done → Whole t → Young (max (t .clock) clock) (comes c t j .satbox)
 unfolding replied ticked
 young-after (in-request {s = s} {clock = clock} {address = address} {draw = draw}) t j e w =
     subst (λ (o : Outcome). Young (max (t .clock) clock) (ifDone o (requested s clock address draw t .did .satbox) t)) (sym e) (requested-young s clock address draw t w)

@@ -1,5 +1,4 @@
--- A call of the box with whatever its caller hands in, and what comes of it. Everything is read off the meanings of the calls
--- (`replied`, `ticked`, `collected`, `orderOf` and their buffers); nothing is said here of what they do. Assumes nothing.
+-- A call of the box with whatever its caller hands in, and what comes of it, read off the meanings of the calls alone. Assumes nothing.
 use Prim.Native.Nat.{ℕ}
 use mathlib.Core.Bool.{Bool, true, false, not, _&&_}
 use mathlib.Core.List.{List, []}
@@ -30,12 +29,11 @@ pub data Call : Type 0 where
   collect : (buffer : List ℕ) (journal : Lent) → Call
   order : (frontend : ℕ) → Call
 
--- the bytes that are lent, where the box's own journal is j
+-- the bytes that are lent, where the box's own journal is j; and its own after a call that left `after` of them
 abbrev pub lent : Lent → List ℕ → List ℕ
 lent own j = j
 lent (other k) j = k
 
--- the box's own journal after a call that left `after` of what it was lent
 abbrev pub ownAfter : Lent → List ℕ → List ℕ → List ℕ
 ownAfter own j after = after
 ownAfter (other k) j after = j
@@ -46,53 +44,39 @@ orderOutcome On = Done
 orderOutcome Off = Done
 orderOutcome (Unordered r) = Refused r
 
--- WHAT COMES OF A CALL on a box t whose journal is j: whether it was refused, and by which refusal;
-abbrev pub outcomeOf : Call → SatBox → List ℕ → Outcome
-outcomeOf (request s clock address draw b l) t j = replied s clock address draw t b (lent l j) .outcome
-outcomeOf (tick clock l) t j = ticked clock t (lent l j) .outcome
-outcomeOf (collect b l) t j = collected t (lent l j) b .outcome
-outcomeOf (order n) t j = orderOutcome (orderOf t n .outcome)
-
 -- document 01's number of what refused it; 0 where it was done
 abbrev pub refusedBy : Outcome → ℕ
 refusedBy Done = 0
 refusedBy (Refused r) = numberOf r
 
--- the box;
-abbrev pub satboxAfter : Call → SatBox → List ℕ → SatBox
-satboxAfter (request s clock address draw b l) t j = replied s clock address draw t b (lent l j) .satbox
-satboxAfter (tick clock l) t j = ticked clock t (lent l j) .satbox
-satboxAfter (collect b l) t j = collected t (lent l j) b .satbox
-satboxAfter (order n) t j = t
+-- WHAT COMES OF A CALL: whether it was refused, and by which refusal; the box and its journal; the openings and closings in it, in their order, as the
+-- rules give them, none where it was refused; the bytes that were collected: as many as the call returned, at the front of the collecting buffer; and
+-- which of the records since the last collection still are so: none after a collection that was done
+pub record Comes : Type 0 where
+  pub outcome : Outcome
+  pub satbox : SatBox
+  pub journal : List ℕ
+  pub records : List Record
+  pub collected : List ℕ
+  pub left : List Record → List Record
 
--- its journal;
-abbrev pub journalAfter : Call → SatBox → List ℕ → List ℕ
-journalAfter (request s clock address draw b l) t j = ownAfter l j (repliedJournal s clock address draw t b (lent l j))
-journalAfter (tick clock l) t j = ownAfter l j (tickedJournal clock t (lent l j))
-journalAfter (collect b l) t j = j
-journalAfter (order n) t j = j
+-- of a call that collects nothing
+abbrev pub collectsNothing : Outcome → SatBox → List ℕ → List Record → Comes
+collectsNothing o t j rs = record { outcome = o; satbox = t; journal = j; records = rs; collected = []; left = λ since. since }
 
--- the openings and closings in it, in their order, as the rules give them: none where it was refused;
-abbrev pub recordsIn : Call → SatBox → List ℕ → List Record
-recordsIn (request s clock address draw b l) t j =
-    ifDone (outcomeOf (request s clock address draw b l) t j) (requested s clock address draw t .did .records) []
-recordsIn (tick clock l) t j = ifDone (outcomeOf (tick clock l) t j) (sweeping clock t .records) []
-recordsIn (collect b l) t j = []
-recordsIn (order n) t j = []
-
--- and the bytes that were collected: as many as the call returned, at the front of the collecting buffer
-abbrev pub collectedIn : Call → SatBox → List ℕ → List ℕ
-collectedIn (request s clock address draw b l) t j = []
-collectedIn (tick clock l) t j = []
-collectedIn (collect b l) t j = take (collected t (lent l j) b .count) (collectedInto t (lent l j) b)
-collectedIn (order n) t j = []
-
--- of the records since the last collection, those that still are so after a call: none after a collection that was done
-abbrev pub uncollected : Call → SatBox → List ℕ → List Record → List Record
-uncollected (request s clock address draw b l) t j rs = rs
-uncollected (tick clock l) t j rs = rs
-uncollected (collect b l) t j rs = ifDone (outcomeOf (collect b l) t j) [] rs
-uncollected (order n) t j rs = rs
+-- of any call of the box t whose journal is j
+abbrev pub comes : Call → SatBox → List ℕ → Comes
+comes (request s clock address draw b l) t j =
+    let r = replied s clock address draw t b (lent l j) in
+    collectsNothing (r .outcome) (r .satbox) (ownAfter l j (repliedJournal s clock address draw t b (lent l j)))
+    (ifDone (r .outcome) (requested s clock address draw t .did .records) [])
+comes (tick clock l) t j =
+    let r = ticked clock t (lent l j) in
+    collectsNothing (r .outcome) (r .satbox) (ownAfter l j (tickedJournal clock t (lent l j))) (ifDone (r .outcome) (sweeping clock t .records) [])
+comes (collect b l) t j =
+    let r = collected t (lent l j) b in
+    record { outcome = r .outcome; satbox = r .satbox; journal = j; records = []; collected = take (r .count) (collectedInto t (lent l j) b); left = λ since. ifDone (r .outcome) [] since }
+comes (order n) t j = collectsNothing (orderOutcome (orderOf t n .outcome)) t j []
 
 -- the journal that a call is lent has not length C; a frontend order is lent none
 abbrev pub lacksJournal : ℕ → Call → List ℕ → Bool

@@ -21,9 +21,12 @@ takes r s = has (s .number) r || (owns (r .stream) r && isOn (r .stream) s)
 unfoldable pub visitOf : SatBox → Session → ℕ
 visitOf t s = first (λ r. isExpired (t .clock) r && takes r s) (t .sessions)
 
--- "3 closed"
+-- "Kind 1 opened as owner, 2 joined .. 3 closed": a record of a closing, or of an opening
 abbrev pub saysClosed : Record → Bool
 saysClosed r = eqb (r .kind) 3
+
+abbrev pub saysOpened : Record → Bool
+saysOpened r = not (saysClosed r)
 
 -- a record, its sequence number aside
 abbrev pub unnumbered : Record → Record

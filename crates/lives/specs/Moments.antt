@@ -2,9 +2,8 @@
 -- history so far and the table agree (`Agree`). Assumes nothing.
 use Prim.Native.Nat.{ℕ, _<_}
 use mathlib.Core.Path.{_≡_}
-use mathlib.Core.Bool.{true, false, not}
+use mathlib.Core.Bool.{true, false}
 use mathlib.Core.List.{List, _++_}
-use lib.Dec.{eqb}
 use lib.ListN.{length}
 use Rattle.journal.specs.declared.Record.{Record}
 use Rattle.stream.specs.declared.Stream.{Stream}
@@ -30,16 +29,9 @@ pub data Quiet (t : SatBox) : SatBox → Type 0 where
 
 -- THE CHANGES THAT WRITE A RECORD: a session with a number comes to a free place of the table, as an owner or as a joiner; and an open session closes
 pub data Notes (t : SatBox) : Did → Type 0 where
-  opens : (s : Session) (place : ℕ) → place < length (t .sessions) → sessionAt t place .number ≡ 0 → (s .number ≡ 0 → ⊥) → (s .owner ≡ 0 → ⊥) → Notes t (noting 1 0 s place s t)
+  opensAsOwner : (s : Session) (place : ℕ) → place < length (t .sessions) → sessionAt t place .number ≡ 0 → (s .number ≡ 0 → ⊥) → (s .owner ≡ 0 → ⊥) → Notes t (noting 1 0 s place s t)
   joins : (s : Session) (place : ℕ) → place < length (t .sessions) → sessionAt t place .number ≡ 0 → (s .number ≡ 0 → ⊥) → s .owner ≡ 0 → Notes t (noting 2 0 s place s t)
   closes : (cause place : ℕ) → (sessionAt t place .number ≡ 0 → ⊥) → Notes t (closeOne cause place t)
-
--- how many records of a history are of openings, "1 opened as owner, 2 joined", and how many of closings, "3 closed"
-abbrev pub openings : List Record → ℕ
-openings rs = count (λ r. not (eqb (r .kind) 3)) rs
-
-abbrev pub closings : List Record → ℕ
-closings rs = count (λ r. eqb (r .kind) 3) rs
 
 -- from the history h and the table t to the history k and the table u, record by record
 pub data Leads (h : List Record) (t : SatBox) : List Record → SatBox → Type 0 where
@@ -47,15 +39,8 @@ pub data Leads (h : List Record) (t : SatBox) : List Record → SatBox → Type 
   quiet : {k : List Record} {u v : SatBox} → Leads h t k u → Quiet u v → Agree k v → Leads h t k v
   noted : {k : List Record} {u : SatBox} {d : Did} → Leads h t k u → Notes u d → Agree (k ++ d .records) (d .satbox) → Leads h t (k ++ d .records) (d .satbox)
 
--- on the way from h and t to k and u the session n let the frontend f go at a clock: there is a record at which it did, at that clock of the
--- table; in the table before it n holds f, and in the table after it n does not
-pub record LetGo (h : List Record) (t : SatBox) (k : List Record) (u : SatBox) (f n clock : ℕ) : Type 0 where
-  pub past : List Record
-  pub before : SatBox
-  pub closing : Did
-  pub reached : Leads h t past before
-  pub notes : Notes before closing
-  pub onward : Leads (past ++ closing .records) (closing .satbox) k u
-  pub held : holds before f n ≡ true
-  pub freed : holds (closing .satbox) f n ≡ false
-  pub when : closing .satbox .clock ≡ clock
+-- on the way from h and t to k and u the session n let the frontend f go at a clock: a record was written with which it closed, in the table before it n
+-- holds f, in the table after it n does not, and that has this clock
+pub data LetGo (h : List Record) (t : SatBox) (k : List Record) (u : SatBox) (f n clock : ℕ) : Type 0 where
+  lets : {past : List Record} {before : SatBox} {closing : Did} → Leads h t past before → Notes before closing → holds before f n ≡ true
+      → holds (closing .satbox) f n ≡ false → closing .satbox .clock ≡ clock → Leads (past ++ closing .records) (closing .satbox) k u → LetGo h t k u f n clock

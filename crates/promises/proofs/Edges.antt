@@ -27,7 +27,7 @@ use Rattle.reader.specs.declared.fields.Session.the-variants.{Absent}
 use Rattle.reader.specs.declared.fields.Transport.the-variants.{Other, Port}
 use Rattle.journal.specs.Bytes.{encoded}
 use Rattle.journal.specs.declared.Record.{Record}
-use Rattle.stream.specs.Values.{areNone, isInRange, areInRange, goTogether, merged}
+use Rattle.stream.specs.Values.{areNone, areInRange, goTogether, merged}
 use Rattle.stream.specs.Pids.{numbersIn, replaced as listed, areTooMany, chosen, isChoice}
 use Rattle.stream.specs.Streams.{noStream, areZero, isSound}
 use Rattle.stream.specs.Merging.{changed, mergeOf}
@@ -70,7 +70,7 @@ unfolding requested answered served caseOf changeCase merging replaced joining o
 serving = 0
 
 unfoldable pub meanings : ℕ
-unfolding reading listing serving answerOf replyText reasonOf decimal hex8 dotted width numeral encoded repliedInto repliedJournal written wellFormed isSeated isEmpty isSound areZero areNone areInRange isInRange isChoice
+unfolding reading listing serving answerOf replyText reasonOf decimal hex8 dotted width numeral encoded repliedInto repliedJournal written wellFormed isSeated isEmpty isSound areZero areNone areInRange isChoice
 meanings = 0
 
 -- a request's verdict is the same on every box, at every clock, from every address and with every draw

@@ -14,8 +14,8 @@ use Rattle.aim.specs.declared.Method.the-variants.{Options, Setup, Play, Teardo
 use Rattle.reader.specs.declared.fields.Transport.{Transport}
 use Rattle.reader.specs.declared.fields.Transport.the-variants.{Other as Missing, Port}
 use Rattle.stream.specs.Streams.{pastStream, blank, isSound}
-use Rattle.stream.specs.Values.{areFit}
 use Rattle.stream.specs.Merging.{mergeOf}
+use Rattle.stream.specs.Arrays.{areFit}
 use Rattle.stream.specs.declared.Change.{Change}
 use Rattle.stream.proofs.Soundness.{blank-sound}
 use Rattle.stream.proofs.Keeping.{merge-sound}

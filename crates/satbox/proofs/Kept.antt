@@ -6,8 +6,8 @@ use mathlib.Core.List.{List, _∷_}
 use Prim.Native.Nat.{ℕ}
 use native.Mathlib.Omega.{arith}
 use Rattle.stream.specs.Streams.{pastStream, isSound}
-use Rattle.stream.specs.Values.{areFit}
 use Rattle.stream.specs.Merging.{mergeOf}
+use Rattle.stream.specs.Arrays.{areFit}
 use Rattle.stream.specs.declared.Stream.{Stream}
 use Rattle.stream.specs.declared.Outcome.the-variants.{Merged}
 use Rattle.stream.proofs.Keeping.{merge-sound, merge-frontend}

@@ -22,8 +22,7 @@ use Rattle.digits.proofs.Limits.{Is-read, number-between}
 use Rattle.lines.specs.Lines.{isLaidOut}
 use Rattle.target.specs.Uri.{startsWith, hasQuery, queryOf}
 use Rattle.tuning.specs.Values.{valueOf}
-use Rattle.stream.specs.Values.{kept, isFit, areFit}
-use Rattle.stream.specs.Pids.{isIn}
+use Rattle.stream.specs.Arrays.{kept, isFit, areFit, isIn}
 use Rattle.stream.proofs.Fitting.{all-in, fit-of, read-ranged}
 use Rattle.aim.specs.Query.{partsOf, attributeIn, valueIn, codeFrom, codeAmong, codeOf}
 use Rattle.aim.specs.Aim.{queryIn, codeIn}

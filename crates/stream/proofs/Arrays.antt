@@ -10,7 +10,8 @@ use lib.ListN.{length, getD, drop}
 use Rattle.scan.proofs.Bools.{and-and}
 use Rattle.scan.specs.Lists.{all}
 use Rattle.scan.proofs.Loops.{turn, end}
-use Rattle.stream.specs.Pids.{isZero, isPadded}
+use Rattle.stream.specs.Values.{isZero}
+use Rattle.stream.specs.Pids.{isPadded}
 
 -- z says whether the places looked at so far, from `from` up to i, are zeros
 pub record Zeros (l : List ℕ) (from i : ℕ) (z : Bool) : Type 0 where

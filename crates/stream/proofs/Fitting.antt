@@ -20,9 +20,10 @@ use Rattle.digits.specs.declared.Read.the-variants.{Value, Nothing}
 use Rattle.digits.specs.declared.Zeros.the-variants.{Allowed}
 use Rattle.digits.proofs.Limits.{Is-read, number-between}
 use Rattle.tuning.specs.Values.{plain, word, megahertz, hundredths, inBand, frequencyFrom, frequency, valueOf}
-use Rattle.stream.specs.Values.{isInRange, areInRange, given, kept, isFit, areFit, merged}
-use Rattle.stream.specs.Pids.{isIn}
+use Rattle.stream.specs.Values.{areInRange, given, merged}
+use Rattle.stream.specs.Arrays.{isInRange, kept, isFit, areFit, isIn}
 use Rattle.stream.specs.declared.Values.{Values}
+use Rattle.stream.proofs.Ranges.{by-place}
 
 -- a test that all of a list pass
 pub all-in : (q : ℕ → Bool) (l : List ℕ) (a : ℕ) → all q l ≡ true → isIn a l ≡ true → q a ≡ true
@@ -52,9 +53,10 @@ keeping : {a b c d : Bool} → (a ≡ true → b ≡ true) → (c ≡ true → d
 keeping {a} {b} {c} {d} f g e = let x = and-both a c e in both (f (x .0)) (g (x .1))
 
 pub merged-ranged : (v : Values) (codes : List ℕ) → areFit codes ≡ true → areInRange v ≡ true → areInRange (merged v codes) ≡ true
-unfolding areFit areInRange merged
+unfolding areFit merged
 merged-ranged v codes f =
-    keeping (keeping (keeping (keeping (keeping (keeping (keeping (keeping (one 0 refl (v .src)) (one 2 refl (v .freq))) (one 3 refl (v .pol))) (one 4 refl (v .msys))) (one 5 refl (v .mtype))) (one 6 refl (v .plts))) (one 7 refl (v .ro))) (one 8 refl (v .sr))) (one 9 refl (v .fec))
+    rw (by-place v, by-place (merged v codes))
+    (keeping (keeping (keeping (keeping (keeping (keeping (keeping (keeping (one 0 refl (v .src)) (one 2 refl (v .freq))) (one 3 refl (v .pol))) (one 4 refl (v .msys))) (one 5 refl (v .mtype))) (one 6 refl (v .plts))) (one 7 refl (v .ro))) (one 8 refl (v .sr))) (one 9 refl (v .fec)))
   where
     one : (a : ℕ) → isIn a kept ≡ true → (old : ℕ) → isInRange a old ≡ true → isInRange a (given (getD codes a 0) old) ≡ true
     one a k old h = given-ranged a (getD codes a 0) old (all-in (λ b. isFit b (getD codes b 0)) kept a f k) h

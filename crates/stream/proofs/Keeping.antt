@@ -1,6 +1,6 @@
 -- Merging keeps a live stream sound, with its frontend; a query that is refused changes nothing. Assumes nothing.
 use mathlib.Core.Path.{_≡_, refl, ap, _∙_, sym}
-use mathlib.Core.Bool.{Bool, true, false, not, cond, _&&_, _||_}
+use mathlib.Core.Bool.{Bool, true, false, not, cond, _&&_, _||_, or-true}
 use mathlib.Core.List.{List, [], _∷_}
 use Prim.Native.Nat.{ℕ, _-_, _≤_}
 use native.Mathlib.Omega.{arith}
@@ -13,10 +13,11 @@ use Rattle.scan.specs.Cut.{cut}
 use Rattle.scan.proofs.Bools.{never, and-both, by-test, both}
 use Rattle.digits.specs.declared.Read.{Read}
 use Rattle.digits.specs.declared.Read.the-variants.{Value, Nothing}
-use Rattle.stream.specs.Values.{goTogether, areFit, merged}
-use Rattle.stream.specs.Pids.{isLow, rises, added, removed, readPid, withNumber, numbersOf, numbersIn, obeyed, addedAll, Choice, replaced, edited, chosen, areTooMany, choiceOf, laidOut, isPadded, isChoice}
+use Rattle.stream.specs.Values.{goTogether, merged}
+use Rattle.stream.specs.Pids.{added, removed, readPid, withNumber, numbersIn, obeyed, Choice, replaced, edited, chosen, areTooMany, choiceOf, isPadded, isChoice}
 use Rattle.stream.specs.Streams.{isSound}
 use Rattle.stream.specs.Merging.{chosenBy, changed, mergeOf}
+use Rattle.stream.specs.Arrays.{laidOut, areFit, isLow, rises, numbersOf, addedAll}
 use Rattle.stream.specs.declared.Values.{Values}
 use Rattle.stream.specs.declared.Stream.{Stream}
 use Rattle.stream.specs.declared.Change.{Change}
@@ -56,7 +57,7 @@ replaced-fine : (code : ℕ) (text : List ℕ) → Fine (replaced code text)
 unfolding replaced
 replaced-fine code text = by (eqb code 1) (eqb code 2)
   where
-    by : (s t : Bool) → Fine (cond s (record { all = true; list = [] }) (cond t (record { all = false; list = [] }) (record { all = false; list = addedAll (numbersIn text) [] })))
+    by : (s t : Bool) → Fine (record { all = s; list = cond (s || t) [] (addedAll (numbersIn text) []) })
     by true t = none-fine true
     by false true = none-fine false
     by false false =
@@ -67,9 +68,9 @@ edited-fine : (edit : ℕ → List ℕ → List ℕ) → ((ps l : List ℕ) → 
     → Fine (edited edit code text c)
 edited-fine edit f g code text {c} h = by (c .all) (eqb code 0)
   where
-    by : (s t : Bool) → Fine (cond s c (record { all = false; list = cond t (c .list) (obeyed edit (numbersIn text) (c .list)) }))
+    by : (s t : Bool) → Fine (cond (s || t) c (record { all = false; list = obeyed edit (numbersIn text) (c .list) }))
     by true t = h
-    by false true = list-fine (c .list) (h .rising) (h .low)
+    by false true = h
     by false false = list-fine (obeyed edit (numbersIn text) (c .list)) (f (numbersIn text) (c .list) (h .rising)) (g (numbersIn text) (c .list) (numbers-low text) (h .low))
 
 pub chosen-fine : (pids : ℕ) (pidsText : List ℕ) (del : ℕ) (delText : List ℕ) (add : ℕ) (addText : List ℕ) {c : Choice} → Fine c → Fine (chosen pids pidsText del delText add addText c)
@@ -185,9 +186,7 @@ unfolding merged
 no-values v = refl
 
 edited-none : (edit : ℕ → List ℕ → List ℕ) (text : List ℕ) (c : Choice) → edited edit 0 text c ≡ c
-edited-none edit text c =
-    by-test (λ t. c .all ≡ t → cond t c (record { all = false; list = c .list }) ≡ c) (c .all) (λ y z. refl)
-    (λ n z. ap (λ t. record { all = t; list = c .list }) (sym z)) refl
+edited-none edit text c = rw (or-true (c .all))
 
 no-pids : (m : Stream) (pids delpids addpids : List ℕ) → chosenBy m (replicate 13 0) pids delpids addpids ≡ choiceOf m
 unfolding chosen

@@ -1,4 +1,5 @@
 pub mod Arrays
+pub mod Ranges
 pub mod Soundness
 pub mod Places
 pub mod Shifts

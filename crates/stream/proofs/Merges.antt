@@ -1,6 +1,6 @@
 -- A query merged step by step: its values, its PIDs, and what becomes of the stream. Assumes nothing.
-use mathlib.Core.Path.{_≡_, refl, ap, _∙_, sym}
-use mathlib.Core.Bool.{Bool, true, false, not}
+use mathlib.Core.Path.{_≡_, refl, ap, _∙_, sym, subst}
+use mathlib.Core.Bool.{Bool, true, false, not, cond}
 use mathlib.Core.List.{List, []}
 use Prim.Native.Nat.{ℕ, _≤_, _<_, min}
 use native.Mathlib.Omega.{arith}
@@ -9,11 +9,11 @@ use lib.Dec.{eqb}
 use lib.ListN.{length, take, getD}
 use lib.Seq.{take-all}
 use borrow.Author.Tests.{eq-eqb, ne-eqb, lt-ltb, le-ltb}
-use Rattle.scan.proofs.Bools.{by-cases}
+use Rattle.scan.proofs.Bools.{by-test, by-cases}
 use Rattle.stream.specs.Values.{merged, goTogether}
-use Rattle.stream.specs.Pids.{added, removed, addedAll, numbersIn, withText, replaced, edited, chosen, choiceOf, laidOut}
-use Rattle.stream.specs.Arrays.{Front, Held}
-use Rattle.stream.specs.Merging.{Chosen, chosenBy, changed, mergeOf}
+use Rattle.stream.specs.Pids.{added, removed, numbersIn, obeyed, Choice, replaced, edited, chosen, choiceOf}
+use Rattle.stream.specs.Arrays.{withText, laidOut, addedAll, Chosen, Front, Held}
+use Rattle.stream.specs.Merging.{chosenBy, changed, mergeOf}
 use Rattle.stream.specs.declared.Values.{Values}
 use Rattle.stream.specs.declared.Stream.{Stream}
 use Rattle.stream.specs.declared.pids.Pids.{Pids}
@@ -35,7 +35,13 @@ module _ (code : ℕ) (text l : List ℕ) where
     unfolding replaced
     replaced-list e h = rw (ne-eqb code 1 some, ne-eqb code 2 e) (record { all = refl; held = h })
 
--- delpids and addpids
+-- delpids and addpids: a text that is not given edits nothing
+edited-by : (edit : ℕ → List ℕ → List ℕ) (code : ℕ) (text : List ℕ) (c : Choice) → c .all ≡ false → edited edit code text c ≡ record { all = false; list = withText edit code text (c .list) }
+edited-by edit code text c e =
+    let l = obeyed edit (numbersIn text) (c .list) in
+    rw e (by-test (λ t. _≡_ {A = Choice} (cond t (record { all = false; list = c .list }) (record { all = false; list = l })) (record { all = false; list = cond t (c .list) l })) (eqb code 0)
+    (λ y. refl) (λ n. refl))
+
 take-most : (a : List ℕ) (count : ℕ) → length a ≡ 32 → take (min count 32) a ≡ take count a
 take-most a count h =
     by-cases (decLt count 32)
@@ -56,7 +62,9 @@ module _ (m : Stream) (del : ℕ) (delpids : List ℕ) (add : ℕ) (addpids : Li
   edited-list {b} {d} {left} {n} e f h =
       let t : take held (m .pids) ≡ take (m .count) (m .pids) = ap (λ k. take k (m .pids)) most ∙ take-most (m .pids) (m .count) long in
       let s : take left b ≡ withText removed del delpids (take (m .count) (m .pids)) = f .is ∙ ap (withText removed del delpids) t in
-      rw e (record { all = refl; held = rw s at h })
+      let q : edited removed del delpids (choiceOf m) ≡ record { all = false; list = withText removed del delpids (take (m .count) (m .pids)) } = edited-by removed del delpids (choiceOf m) e in
+      subst (λ c. Chosen c (record { list = d; count = n; all = 0 })) (sym (ap (edited added add addpids) q ∙ edited-by added add addpids (record { all = false; list = withText removed del delpids (take (m .count) (m .pids)) }) refl))
+      (record { all = refl; held = rw s at h })
 
 -- which of the two
 module _ (m : Stream) (codes pids delpids addpids : List ℕ) {p : Pids} where

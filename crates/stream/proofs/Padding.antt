@@ -10,7 +10,9 @@ use lib.ListN.{length, take, replicate}
 use borrow.Author.Tests.{eqb-true}
 use Rattle.scan.specs.Lists.{all}
 use Rattle.scan.proofs.Bools.{never, and-both, both}
-use Rattle.stream.specs.Pids.{isZero, isLow, rises, isPadded}
+use Rattle.stream.specs.Values.{isZero}
+use Rattle.stream.specs.Pids.{isPadded}
+use Rattle.stream.specs.Arrays.{isLow, rises}
 
 zeros-padded : (n k : ℕ) → isPadded 0 n (replicate k 0) ≡ true
 zeros-padded n zero = refl

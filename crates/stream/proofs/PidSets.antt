@@ -10,7 +10,8 @@ use lib.Dec.{eqb, leb, ltb}
 use borrow.Author.Tests.{leb-true, le-leb, ltb-true, ltb-false, eqb-true, eqb-false, eq-eqb, ne-eqb}
 use Rattle.scan.specs.Lists.{all}
 use Rattle.scan.proofs.Bools.{never, and-both, by-test, by-cases, both, or-swap, or-same}
-use Rattle.stream.specs.Pids.{rises, isIn, added, removed, addedAll, removedAll}
+use Rattle.stream.specs.Pids.{added, removed}
+use Rattle.stream.specs.Arrays.{rises, isIn, addedAll, removedAll}
 
 -- a list ascends from any lower start
 pub rises-from : (n m : ℕ) (l : List ℕ) → n ≤ m → rises m l ≡ true → rises n l ≡ true

@@ -7,8 +7,7 @@ use native.Mathlib.Numerals.{add-one}
 use native.Mathlib.Omega.{arith}
 use lib.ListN.{length, getD, take, drop, set, replicate, length-append, length-drop, length-set, length-replicate, getD-replicate, take-append-drop}
 use lib.Seq.{length-take-le, take-suc, take-take, take-all, take-at, drop-cons, getD-take, getD-drop, getD-append-add, set-at, append-snoc}
-use Rattle.stream.specs.Pids.{laidOut}
-use Rattle.stream.specs.Arrays.{Front, Held}
+use Rattle.stream.specs.Arrays.{laidOut, Front, Held}
 
 -- the first i elements of b are those of w, and the others still those of a
 pub record Filled (a w b : List ℕ) (i : ℕ) : Type 0 where

@@ -8,8 +8,8 @@ use lib.ListN.{length, drop, replicate}
 use borrow.Author.Tests.{eq-eqb, ne-eqb, le-leb, lt-leb, leb-true, eqb-true, not-true, not-false}
 use Rattle.scan.specs.Lists.{all}
 use Rattle.scan.proofs.Bools.{and-both}
-use Rattle.stream.specs.Values.{noValues, areNone, isInRange, areInRange, goTogether}
-use Rattle.stream.specs.Pids.{isZero, isPadded, isChoice}
+use Rattle.stream.specs.Values.{isZero, onlySrc, areNone, areInRange, goTogether}
+use Rattle.stream.specs.Pids.{isPadded, isChoice}
 use Rattle.stream.specs.Streams.{noStream, blank, areZero, isSound}
 use Rattle.stream.specs.declared.Values.{Values}
 use Rattle.stream.specs.declared.Stream.{Stream}
@@ -82,28 +82,29 @@ sound-live f m e u =
     record { used = u; within = leb-true (m .frontend) f (a .0); ranged = b .0; together = c .0; choice = c .1 }
 
 -- an unused place that is sound is the one with all zeros
-unused-values-none : (v : Values) → areNone v ≡ true → v ≡ noValues
+unused-values-none : (v : Values) → areNone v ≡ true → v ≡ (onlySrc 0)
 unfolding areNone
 unused-values-none v e =
-    let a8 = and-both _ (eqb (v .fec) 0) e in
-    let a7 = and-both _ (eqb (v .sr) 0) (a8 .0) in
-    let a6 = and-both _ (eqb (v .ro) 0) (a7 .0) in
-    let a5 = and-both _ (eqb (v .plts) 0) (a6 .0) in
-    let a4 = and-both _ (eqb (v .mtype) 0) (a5 .0) in
-    let a3 = and-both _ (eqb (v .msys) 0) (a4 .0) in
-    let a2 = and-both _ (eqb (v .pol) 0) (a3 .0) in
-    let a1 = and-both (eqb (v .src) 0) (eqb (v .freq) 0) (a2 .0) in
-    let e0 : v .src ≡ 0 = eqb-true _ _ (a1 .0) in
-    let e1 : v .freq ≡ 0 = eqb-true _ _ (a1 .1) in
-    let e2 : v .pol ≡ 0 = eqb-true _ _ (a2 .1) in
-    let e3 : v .msys ≡ 0 = eqb-true _ _ (a3 .1) in
-    let e4 : v .mtype ≡ 0 = eqb-true _ _ (a4 .1) in
-    let e5 : v .plts ≡ 0 = eqb-true _ _ (a5 .1) in
-    let e6 : v .ro ≡ 0 = eqb-true _ _ (a6 .1) in
-    let e7 : v .sr ≡ 0 = eqb-true _ _ (a7 .1) in
-    let e8 : v .fec ≡ 0 = eqb-true _ _ (a8 .1) in
+    let a0 = and-both (eqb (v .src) 0) _ e in
+    let a1 = and-both (eqb (v .freq) 0) _ (a0 .1) in
+    let a2 = and-both (eqb (v .pol) 0) _ (a1 .1) in
+    let a3 = and-both (eqb (v .msys) 0) _ (a2 .1) in
+    let a4 = and-both (eqb (v .mtype) 0) _ (a3 .1) in
+    let a5 = and-both (eqb (v .plts) 0) _ (a4 .1) in
+    let a6 = and-both (eqb (v .ro) 0) _ (a5 .1) in
+    let a7 = and-both (eqb (v .sr) 0) _ (a6 .1) in
+    let a8 = and-both (eqb (v .fec) 0) _ (a7 .1) in
+    let e0 : v .src ≡ 0 = eqb-true _ _ (a0 .0) in
+    let e1 : v .freq ≡ 0 = eqb-true _ _ (a1 .0) in
+    let e2 : v .pol ≡ 0 = eqb-true _ _ (a2 .0) in
+    let e3 : v .msys ≡ 0 = eqb-true _ _ (a3 .0) in
+    let e4 : v .mtype ≡ 0 = eqb-true _ _ (a4 .0) in
+    let e5 : v .plts ≡ 0 = eqb-true _ _ (a5 .0) in
+    let e6 : v .ro ≡ 0 = eqb-true _ _ (a6 .0) in
+    let e7 : v .sr ≡ 0 = eqb-true _ _ (a7 .0) in
+    let e8 : v .fec ≡ 0 = eqb-true _ _ (a8 .0) in
     let w : _≡_ {A = Values}
-    (record { src = v .src; freq = v .freq; pol = v .pol; msys = v .msys; mtype = v .mtype; plts = v .plts; ro = v .ro; sr = v .sr; fec = v .fec }) noValues =
+    (record { src = v .src; freq = v .freq; pol = v .pol; msys = v .msys; mtype = v .mtype; plts = v .plts; ro = v .ro; sr = v .sr; fec = v .fec }) (onlySrc 0) =
     cc
     in
     w
@@ -113,7 +114,7 @@ sound-unused f m e u h =
     let a = and-both (areNone (m .values)) (eqb (m .count) 0 && eqb (m .all) 0 && all isZero (m .pids)) (sym (zeros f m u refl) ∙ e) in
     let b = and-both (eqb (m .count) 0 && eqb (m .all) 0) (all isZero (m .pids)) (a .1) in
     let c = and-both (eqb (m .count) 0) (eqb (m .all) 0) (b .0) in
-    let v : m .values ≡ noValues = unused-values-none (m .values) (a .0) in
+    let v : m .values ≡ (onlySrc 0) = unused-values-none (m .values) (a .0) in
     let n : m .count ≡ 0 = eqb-true _ _ (c .0) in
     let k : m .all ≡ 0 = eqb-true _ _ (c .1) in
     let p : m .pids ≡ replicate 32 0 = zeros-are (m .pids) (b .1) ∙ rw h in
@@ -125,5 +126,5 @@ unfolding isSound areZero areNone
 none-sound f = refl
 
 pub blank-sound : (f n : ℕ) → 1 ≤ n → n ≤ f → isSound f (blank n) ≡ true
-unfolding isSound areInRange isInRange goTogether isChoice
+unfolding isSound areInRange goTogether isChoice
 blank-sound f n h k = rw (ne-eqb n 0 (λ e. omega arith), le-leb 1 n h, le-leb n f k)

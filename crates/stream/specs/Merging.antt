@@ -1,16 +1,12 @@
--- What a query makes of a live stream. "A given attribute replaces, an absent one stays"; "a status other than 200 changes nothing".
--- Assumes nothing.
-use Prim.Native.Nat.{ℕ}
-use mathlib.Core.Path.{_≡_}
+-- What a query makes of a live stream; "a status other than 200 changes nothing". Assumes nothing.
+use Prim.Native.Nat.{ℕ, _-_}
 use mathlib.Core.Bool.{not, cond}
-use mathlib.Core.List.{List}
-use lib.ListN.{length, getD}
+use mathlib.Core.List.{List, _++_}
+use lib.ListN.{length, getD, replicate}
 use Rattle.stream.specs.Values.{merged, goTogether}
-use Rattle.stream.specs.Pids.{Choice, chosen, areTooMany, choiceOf, laidOut}
-use Rattle.stream.specs.Arrays.{Held}
+use Rattle.stream.specs.Pids.{most, Choice, chosen, areTooMany, choiceOf}
 use Rattle.stream.specs.declared.Values.{Values}
 use Rattle.stream.specs.declared.Stream.{Stream}
-use Rattle.stream.specs.declared.pids.Pids.{Pids}
 use Rattle.stream.specs.declared.Change.{Change}
 use Rattle.stream.specs.declared.Outcome.the-variants.{Merged, Combination, TooMany}
 
@@ -18,9 +14,9 @@ use Rattle.stream.specs.declared.Outcome.the-variants.{Merged, Combinati
 abbrev pub chosenBy : Stream → List ℕ → List ℕ → List ℕ → List ℕ → Choice
 chosenBy m codes pids delpids addpids = chosen (getD codes 10 0) pids (getD codes 12 0) delpids (getD codes 11 0) addpids (choiceOf m)
 
--- a stream with other values and PIDs; "fe: the frontend held"
+-- a stream with other values and PIDs, and zeros after these; "fe: the frontend held"
 unfoldable pub changed : Stream → Values → Choice → Stream
-changed m v c = record { pids = laidOut (c .list); values = v; count = length (c .list); frontend = m .frontend; all = cond (c .all) 1 0 }
+changed m v c = record { pids = c .list ++ replicate (most - length (c .list)) 0; values = v; count = length (c .list); frontend = m .frontend; all = cond (c .all) 1 0 }
 
 -- "Combination rule broken", then "More than 32 PIDs after merging"; in both the stream stays as it is
 unfoldable pub mergeOf : Stream → List ℕ → List ℕ → List ℕ → List ℕ → Change
@@ -28,8 +24,3 @@ mergeOf m codes pids delpids addpids =
     cond (not (goTogether (merged (m .values) codes))) (record { stream = m; outcome = Combination })
     (cond (areTooMany (chosenBy m codes pids delpids addpids)) (record { stream = m; outcome = TooMany })
     (record { stream = changed m (merged (m .values) codes) (chosenBy m codes pids delpids addpids); outcome = Merged }))
-
--- a choice as the code has it while it merges: a count of 33 where there are too many
-pub record Chosen (c : Choice) (p : Pids) : Type 0 where
-  pub all : p .all ≡ cond (c .all) 1 0
-  pub held : Held (c .list) (p .list) (p .count)

@@ -1,16 +1,16 @@
--- A stream's PIDs: "PID lists ascending without repeats", 32 at most, or "all"; and what pids, delpids and addpids make of them.
--- Said of ascending lists; how they lie in an array is said apart, below. Assumes nothing.
-use Prim.Native.Nat.{ℕ, zero, suc, _-_}
+-- A stream's PIDs, "ascending without repeats", 32 at most, or "all"; and what pids, delpids and addpids make of them. Assumes nothing.
+use Prim.Native.Nat.{ℕ, zero, suc}
 use mathlib.Core.Bool.{Bool, true, false, not, cond, _&&_, _||_}
-use mathlib.Core.List.{List, [], _∷_, _++_}
+use mathlib.Core.List.{List, [], _∷_, foldr, foldl}
 use lib.Dec.{eqb, leb, ltb}
-use lib.ListN.{length, take, replicate}
+use lib.ListN.{length, take}
 use Rattle.scan.specs.Lists.{all}
 use Rattle.scan.specs.Cut.{cut}
 use Rattle.digits.specs.Reading.{readNumber}
 use Rattle.digits.specs.declared.Read.{Read}
 use Rattle.digits.specs.declared.Read.the-variants.{Value, Nothing}
 use Rattle.digits.specs.declared.Zeros.the-variants.{Allowed}
+use Rattle.stream.specs.Values.{isZero}
 use Rattle.stream.specs.declared.Stream.{Stream}
 
 -- the highest PID, and how many a stream may have
@@ -19,16 +19,6 @@ highest = 8191
 
 abbrev pub most : ℕ
 most = 32
-
--- "ascending without repeats", and none below n
-abbrev pub rises : ℕ → List ℕ → Bool
-rises n [] = true
-rises n (p ∷ l) = leb n p && rises (suc p) l
-
--- whether a PID is in a list
-abbrev pub isIn : ℕ → List ℕ → Bool
-isIn p [] = false
-isIn p (q ∷ l) = eqb p q || isIn p l
 
 -- an ascending list with one PID more; a PID that is there already adds nothing
 abbrev pub added : ℕ → List ℕ → List ℕ
@@ -40,8 +30,7 @@ abbrev pub removed : ℕ → List ℕ → List ℕ
 removed p [] = []
 removed p (q ∷ l) = cond (ltb p q) (q ∷ l) (cond (eqb p q) l (q ∷ removed p l))
 
--- "numbers 0 to 8191 joined by commas": a piece that is such a number, and all of them in the order in which they stand; any other piece is
--- passed over
+-- "numbers 0 to 8191 joined by commas", in the order in which they stand; any other piece is passed over
 abbrev pub readPid : List ℕ → Read
 readPid piece = readNumber Allowed 5 highest piece
 
@@ -49,23 +38,12 @@ abbrev pub withNumber : Read → List ℕ → List ℕ
 withNumber (Value p) l = p ∷ l
 withNumber Nothing l = l
 
-abbrev pub numbersOf : List (List ℕ) → List ℕ
-numbersOf [] = []
-numbersOf (piece ∷ pieces) = withNumber (readPid piece) (numbersOf pieces)
-
 unfoldable pub numbersIn : List ℕ → List ℕ
-numbersIn text = numbersOf (cut 44 text)
+numbersIn text = foldr (λ piece l. withNumber (readPid piece) l) [] (cut 44 text)
 
 -- PIDs added, or removed, one after the other
 abbrev pub obeyed : (ℕ → List ℕ → List ℕ) → List ℕ → List ℕ → List ℕ
-obeyed edit [] l = l
-obeyed edit (p ∷ ps) l = obeyed edit ps (edit p l)
-
-abbrev pub addedAll : List ℕ → List ℕ → List ℕ
-addedAll ps l = obeyed added ps l
-
-abbrev pub removedAll : List ℕ → List ℕ → List ℕ
-removedAll ps l = obeyed removed ps l
+obeyed edit ps l = foldl (λ k p. edit p k) l ps
 
 -- a stream's PIDs: all of them, or a list
 pub record Choice : Type 0 where
@@ -74,18 +52,11 @@ pub record Choice : Type 0 where
 
 -- "all, none, or numbers": 1, 2, and else a list
 unfoldable pub replaced : ℕ → List ℕ → Choice
-replaced code text =
-    cond (eqb code 1) (record { all = true; list = [] })
-    (cond (eqb code 2) (record { all = false; list = [] })
-    (record { all = false; list = addedAll (numbersIn text) [] }))
+replaced code text = record { all = eqb code 1; list = cond (eqb code 1 || eqb code 2) [] (obeyed added (numbersIn text) []) }
 
--- the numbers of a text obeyed; code 0 where it is not given
-abbrev pub withText : (ℕ → List ℕ → List ℕ) → ℕ → List ℕ → List ℕ → List ℕ
-withText edit code text l = cond (eqb code 0) l (obeyed edit (numbersIn text) l)
-
--- "on "all" both change nothing"
+-- the numbers of a text obeyed; code 0 where it is not given. "on "all" both change nothing"
 abbrev pub edited : (ℕ → List ℕ → List ℕ) → ℕ → List ℕ → Choice → Choice
-edited edit code text c = cond (c .all) c (record { all = false; list = withText edit code text (c .list) })
+edited edit code text c = cond (c .all || eqb code 0) c (record { all = false; list = obeyed edit (numbersIn text) (c .list) })
 
 -- "delpids is applied before addpids". Neither stands beside pids, which replaces: such a query is refused before it is merged.
 unfoldable pub chosen : ℕ → List ℕ → ℕ → List ℕ → ℕ → List ℕ → Choice → Choice
@@ -96,25 +67,15 @@ chosen pids pidsText del delText add addText c =
 abbrev pub areTooMany : Choice → Bool
 areTooMany c = ltb most (length (c .list))
 
--- the PIDs that stand in a stream's place, and a list as it lies there: zeros after it
+-- the PIDs that stand in a stream's place
 abbrev pub choiceOf : Stream → Choice
 choiceOf m = record { all = not (eqb (m .all) 0); list = take (m .count) (m .pids) }
 
-abbrev pub laidOut : List ℕ → List ℕ
-laidOut l = l ++ replicate (most - length l) 0
-
--- what may stand after the PIDs, and what a PID may be: "0 to 8191"
-abbrev pub isZero : ℕ → Bool
-isZero p = eqb p 0
-
-abbrev pub isLow : ℕ → Bool
-isLow p = leb p highest
-
--- a place's array from some place on: `count` PIDs that ascend, none below n, and then zeros
+-- a place's array from some place on: `count` PIDs, "0 to 8191", that ascend, none below n, and then zeros
 abbrev pub isPadded : ℕ → ℕ → List ℕ → Bool
 isPadded zero n l = all isZero l
 isPadded (suc count) n [] = false
-isPadded (suc count) n (p ∷ l) = leb n p && (isLow p && isPadded count (suc p) l)
+isPadded (suc count) n (p ∷ l) = leb n p && (leb p highest && isPadded count (suc p) l)
 
 -- "PID lists ascending without repeats": as many as the array holds at most, and no list under "all"
 unfoldable pub isChoice : Stream → Bool

@@ -7,7 +7,7 @@ use mathlib.Core.List.{List, [], _∷_}
 use lib.ListN.{set, replicate, take}
 use Rattle.scan.specs.Text.{text}
 use Rattle.digits.specs.Reading.{readNumber}
-use Rattle.stream.specs.Values.{areNone, isInRange, areInRange, goTogether, merged, areComplete}
+use Rattle.stream.specs.Values.{areNone, areInRange, goTogether, merged, areComplete}
 use Rattle.stream.specs.Pids.{numbersIn, replaced, chosen, isChoice}
 use Rattle.stream.specs.Streams.{noStream, blank, areZero, isSound}
 use Rattle.stream.specs.Merging.{changed, mergeOf}
@@ -114,5 +114,5 @@ pub places
     × (isSound 2 (listed (blank 1) "0,8191" .stream) ≡ true)
     × (isSound 2 second ≡ true)
     × (areComplete (second .values) ≡ false)
-unfolding isSound areZero areNone areInRange isInRange isChoice areComplete mergeOf merged goTogether chosen replaced numbersIn readNumber changed
+unfolding isSound areZero areNone areInRange isChoice areComplete mergeOf merged goTogether chosen replaced numbersIn readNumber changed
 places = (refl, refl, refl, refl, refl, refl, refl, refl)

@@ -6,28 +6,21 @@ use lib.Dec.{eqb}
 use lib.ListN.{replicate}
 use Rattle.scan.specs.Classes.{isBetween}
 use Rattle.scan.specs.Lists.{all}
-use Rattle.stream.specs.Values.{noValues, areNone, areInRange, goTogether}
-use Rattle.stream.specs.Pids.{isZero, isChoice}
+use Rattle.stream.specs.Values.{onlySrc, isZero, areNone, areInRange, goTogether}
+use Rattle.stream.specs.Pids.{isChoice}
 use Rattle.stream.specs.declared.Stream.{Stream}
 
 -- a place where no stream is: "unused places all zeros"
 abbrev pub noStream : Stream
-noStream = record { pids = replicate 32 0; values = noValues; count = 0; frontend = 0; all = 0 }
+noStream = record { pids = replicate 32 0; values = onlySrc 0; count = 0; frontend = 0; all = 0 }
 
 -- what the logic reads past the last place
 abbrev pub pastStream : Stream
-pastStream = record { pids = []; values = noValues; count = 0; frontend = 0; all = 0 }
+pastStream = record { pids = []; values = onlySrc 0; count = 0; frontend = 0; all = 0 }
 
 -- a new stream before its query is merged: "src: no, 1", "fe: the frontend held", "pids: none", and all else missing
 abbrev pub blank : ℕ → Stream
-blank frontend =
-    record {
-      pids = replicate 32 0;
-      values = record { src = 1; freq = 0; pol = 0; msys = 0; mtype = 0; plts = 0; ro = 0; sr = 0; fec = 0 };
-      count = 0;
-      frontend = frontend;
-      all = 0;
-    }
+blank frontend = record { pids = replicate 32 0; values = onlySrc 1; count = 0; frontend = frontend; all = 0 }
 
 -- "unused places all zeros"
 unfoldable pub areZero : Stream → Bool

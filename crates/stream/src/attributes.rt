@@ -1,6 +1,7 @@
 // A stream's values: which are in range, which go together, and what a query's values replace.
 ghost use mathlib.Core.Path.{_≡_};
-ghost use Rattle.stream.specs.Values.{areNone, isInRange, areInRange, goTogether, given, merged, areComplete};
+ghost use Rattle.stream.specs.Values.{areNone, areInRange, goTogether, given, merged, areComplete};
+ghost use Rattle.stream.specs.Arrays.{isInRange};
 use crate::Values;
 
 // Whether an attribute, by its place in document 01's table, may have this code in a stream.

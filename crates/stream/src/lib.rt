@@ -40,6 +40,9 @@ pub struct Stream {
 }
 
 impl Stream {
+    // The PIDs that a stream has at most.
+    pub const PIDS: usize = 32;
+
     // A place where no stream is.
     pub const NONE: Stream = Stream {
         pids: [0; 32],
@@ -143,7 +146,7 @@ pub fn merge(m: Stream, codes: [u32; 13], pids: &[u8], delpids: &[u8], addpids: 
     }
     let chosen = choose(m, codes, pids, delpids, addpids);
     let count = chosen.count;
-    if 32 < count {
+    if Stream::PIDS < count {
         return Change {
             stream: m,
             outcome: Outcome::TooMany,

@@ -6,9 +6,10 @@ ghost use mathlib.Core.List.{_∷_, _++_};
 ghost use Prim.Native.Nat.{suc, _≤_, _<_, min};
 ghost use lib.ListN.{length, take, drop};
 ghost use Rattle.scan.specs.Lists.{all};
-ghost use Rattle.stream.specs.Pids.{isZero, isPadded, added, removed, readPid, withText, replaced, edited, choiceOf, laidOut};
-ghost use Rattle.stream.specs.Arrays.{Placed, Front, Held, once};
-ghost use Rattle.stream.specs.Merging.{Chosen, chosenBy};
+ghost use Rattle.stream.specs.Values.{isZero};
+ghost use Rattle.stream.specs.Pids.{isPadded, added, removed, readPid, replaced, edited, choiceOf};
+ghost use Rattle.stream.specs.Arrays.{withText, laidOut, Chosen, Placed, Front, Held, once};
+ghost use Rattle.stream.specs.Merging.{chosenBy};
 use crate::Stream;
 use digits::Read;
 use digits::Zeros;
@@ -80,8 +81,8 @@ fn insert(list: &mut [u16], count: usize, at: usize, p: u16) -> usize
     requires { ⌜ (at ≤ count) × (count ≤ 32) × (length (now list) ≡ 32) ⌝ }
     ensures { λ r. ⌜ Held (take at (take count (now (list .entry))) ++ (p ∷ drop at (take count (now (list .entry))))) (now (list .exit)) r ⌝ }
 {
-    if count == 32 {
-        return 33;
+    if count == Stream::PIDS {
+        return Stream::PIDS + 1;
     }
     let mut carried = p;
     let mut i = at;
@@ -160,7 +161,7 @@ fn add_all(list: &mut [u16], count: usize, code: u32, text: &[u8]) -> usize
     while p <= text.len() {
         let e = scan::first_from(text, p, Class::Is(b','));
         n = add(list, n, &text[p..e]);
-        if 32 < n {
+        if Stream::PIDS < n {
             return n;
         }
         p = e + 1;
@@ -239,10 +240,11 @@ fn replace(code: u32, text: &[u8]) -> Pids
 fn at_most(count: u16) -> usize
     ensures { λ r. ⌜ r ≡ min count 32 ⌝ }
 {
-    if 32 < count {
-        return 32;
+    let all = count as usize;
+    if Stream::PIDS < all {
+        return Stream::PIDS;
     }
-    count as usize
+    all
 }
 
 // What delpids and then addpids make of them.

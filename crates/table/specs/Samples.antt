@@ -4,7 +4,7 @@ use mathlib.Core.Bool.{true, false}
 use mathlib.Core.List.{List, [], _∷_, _++_}
 use Prim.Native.Nat.{ℕ, _-_}
 use lib.ListN.{length, replicate}
-use Rattle.stream.specs.Values.{areNone, isInRange, areInRange, goTogether}
+use Rattle.stream.specs.Values.{areNone, areInRange, goTogether}
 use Rattle.stream.specs.Pids.{isChoice}
 use Rattle.stream.specs.Streams.{noStream, blank, areZero, isSound}
 use Rattle.stream.specs.declared.Stream.{Stream}
@@ -76,11 +76,11 @@ pub record IllFormed : Type 0 where
   pub not-zeros : wellFormed (box 0 10 (remnant ∷ []) []) ≡ false
 
 pub well-formed : WellFormed
-unfolding wellFormed isSeated isEmpty isSound areZero areNone areInRange isInRange goTogether isChoice
+unfolding wellFormed isSeated isEmpty isSound areZero areNone areInRange goTogether isChoice
 well-formed = record { fresh-box = refl; joined = refl; expired = refl; third = refl; filled = refl }
 
 pub ill-formed : IllFormed
-unfolding wellFormed isSeated isEmpty isSound areZero areNone areInRange isInRange goTogether isChoice
+unfolding wellFormed isSeated isEmpty isSound areZero areNone areInRange goTogether isChoice
 ill-formed =
     record {
       overfilled = refl;

@@ -1,6 +1,6 @@
 -- `stream::attributes::is_in_range` meets its contract. Assumes nothing.
 use borrow.Author.Tests.{ne-eqb}
-use Rattle.stream.specs.Values.{isInRange}
+use Rattle.stream.specs.Arrays.{isInRange}
 use Rattle.stream.proofs.attributes.is_in_range.Statement.{statement}
 use Rattle.stream.proofs.attributes.is_in_range.Tie as tie
 

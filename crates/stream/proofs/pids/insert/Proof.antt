@@ -18,6 +18,7 @@ insert-spec =
     (tie.spec
     Inv-loop
     μ-loop
+    (λ c. search needs)
     (λ c. search (full, needs))
     (λ c. search (opening-start, needs))
     (λ c. search needs)
