@@ -14,8 +14,8 @@ use Rattle.digits.specs.declared.Read.{Read}
 use Rattle.digits.specs.declared.Read.the-variants.{Value, Nothing}
 use Rattle.digits.proofs.Limits.{Is-read}
 use Rattle.writing.proofs.Numerals.{decimal-length, hex8-length, dotted-length}
-use Rattle.answer.specs.Lines.{_says_or_, reasonOf, statusLine, numbered, cseqLine, sessionLine, publicLine, unsupportedLine, transportStart, portsText, transportLine, streamLine, rtpInfoLine}
-use Rattle.answer.specs.Answers.{optionsLines, setupLines, playLines, linesBy, linesOf, answerWith}
+use Rattle.answer.specs.Lines.{_gives_or_, reasonOf, line, statusLine, cseqLine, sessionLine, publicLine, transportLine, setupLines, playLines, refusedLines}
+use Rattle.answer.specs.Answers.{numbered, optionsLines, linesBy, linesOf, answerWith}
 use Rattle.answer.specs.declared.Kind.{Kind}
 use Rattle.answer.specs.declared.Kind.the-variants.{Bare, Allow, Public, Unsupported, Options, Setup, Play, Teardown}
 use Rattle.answer.specs.declared.Answer.{Answer}
@@ -39,11 +39,11 @@ both-fit x y m n p q = rw length-append (omega arith)
 numbered-fits : (name : List ℕ) (v : ℕ) → Is-small v → length (numbered name v) ≤ length name + 12
 numbered-fits name v h = rw (length-append, length-append) (omega (arith, decimal-length 9 v (omega arith)))
 
-phrase : (b : Bool) (t : String) (rest : List ℕ) → length (text t) ≤ 30 → length rest ≤ 30 → length (b says t or rest) ≤ 30
+phrase : (b : Bool) (t rest : String) → length (text t) ≤ 30 → length (text rest) ≤ 30 → length (text (b gives t or rest)) ≤ 30
 phrase true t rest h k = h
 phrase false t rest h k = k
 
-reason-fits : (status : ℕ) → length (reasonOf status) ≤ 30
+reason-fits : (status : ℕ) → length (text (reasonOf status)) ≤ 30
 unfolding reasonOf
 reason-fits status =
     phrase (eqb status 200) "OK" _ (omega arith)
@@ -58,7 +58,7 @@ reason-fits status =
     (phrase (eqb status 501) "Not Implemented" _ (omega arith)
     (phrase (eqb status 503) "Service Unavailable" _ (omega arith)
     (phrase (eqb status 505) "RTSP Version Not Supported" _ (omega arith)
-    (phrase (eqb status 551) "Option Not Supported" [] (omega arith) (omega arith)))))))))))))
+    (phrase (eqb status 551) "Option Not Supported" "" (omega arith) (omega arith)))))))))))))
 
 status-fits : (status : ℕ) → Is-small status → length (statusLine status) ≤ 52
 status-fits status h =
@@ -73,30 +73,32 @@ session-fits session end = rw (length-append, length-append) (omega (arith, hex8
 
 -- the lines of each kind, beside the word that they take from the request
 module _ (word : List ℕ) (a : Answer) (s : Small a) where
-  options-fits : length (optionsLines a) ≤ 100
+  options-fits : length (optionsLines (a .session)) ≤ 100
   options-fits =
       cond-keeps (λ (l : List ℕ). length l ≤ 100) (eqb (a .session) 0) publicLine _ (λ e. omega arith)
       (λ e. rw length-append (omega (arith, session-fits (a .session) (text "\r\n"))))
 
   transport-fits : length (transportLine (a .address) (a .port)) ≤ 90
   transport-fits =
-      both-fit (transportStart (a .address)) (portsText (a .port)) 67 23
-      (both-fit (text "Transport: RTP/AVP;unicast;destination=") (dotted (a .address) & text ";client_port=") 39 28 (omega arith)
-      (both-fit (dotted (a .address)) (text ";client_port=") 15 13 (dotted-length (a .address) (s .address)) (omega arith)))
-      (both-fit (decimal (a .port)) (numbered (text "-") ((a .port + 1) % 4294967296)) 10 13 (decimal-length 9 (a .port) (omega (arith, s .port))) (numbered-fits (text "-") ((a .port + 1) % 4294967296) (omega arith)))
+      let second = (a .port + 1) % 4294967296 in
+      let ports = decimal (a .port) & numbered (text "-") second in
+      both-fit (text "Transport: RTP/AVP;unicast;destination=") (dotted (a .address) & text ";client_port=" & ports) 39 51 (omega arith)
+      (both-fit (dotted (a .address)) (text ";client_port=" & ports) 15 36 (dotted-length (a .address) (s .address))
+      (both-fit (text ";client_port=") ports 13 23 (omega arith)
+      (both-fit (decimal (a .port)) (numbered (text "-") second) 10 13 (decimal-length 9 (a .port) (omega (arith, s .port))) (numbered-fits (text "-") second (omega arith)))))
 
-  setup-fits : length (setupLines a) ≤ 150
+  setup-fits : length (setupLines (a .session) (a .address) (a .port) (a .stream)) ≤ 150
   setup-fits =
-      both-fit (sessionLine (a .session) (text ";timeout=60\r\n")) (transportLine (a .address) (a .port) & streamLine (a .stream)) 30 120 (omega (arith, session-fits (a .session) (text ";timeout=60\r\n")))
-      (both-fit (transportLine (a .address) (a .port)) (streamLine (a .stream)) 90 30 transport-fits (numbered-fits (text "com.ses.streamID: ") (a .stream) (s .stream)))
+      both-fit (sessionLine (a .session) (text ";timeout=60\r\n")) (transportLine (a .address) (a .port) & numbered (text "com.ses.streamID: ") (a .stream)) 30 120 (omega (arith, session-fits (a .session) (text ";timeout=60\r\n")))
+      (both-fit (transportLine (a .address) (a .port)) (numbered (text "com.ses.streamID: ") (a .stream)) 90 30 transport-fits (numbered-fits (text "com.ses.streamID: ") (a .stream) (s .stream)))
 
-  play-fits : length (playLines word a) ≤ 19 + (21 + (length word + 20))
+  play-fits : length (playLines (a .session) word (a .stream)) ≤ 19 + (21 + (length word + 20))
   play-fits =
-      both-fit (sessionLine (a .session) (text "\r\n")) (rtpInfoLine word (a .stream)) 19 (21 + (length word + 20)) (omega (arith, session-fits (a .session) (text "\r\n")))
+      both-fit (sessionLine (a .session) (text "\r\n")) _ 19 (21 + (length word + 20)) (omega (arith, session-fits (a .session) (text "\r\n")))
       (both-fit (text "RTP-Info: url=rtsp://") (word & numbered (text "/stream=") (a .stream)) 21 (length word + 20) (omega arith)
       (both-fit word (numbered (text "/stream=") (a .stream)) (length word) 20 (omega arith) (numbered-fits (text "/stream=") (a .stream) (s .stream))))
 
-  unsupported-fits : length (unsupportedLine word) ≤ 100 + length word
+  unsupported-fits : length (refusedLines 5 word) ≤ 100 + length word
   unsupported-fits = rw (length-append, length-append) (omega arith)
 
   lines-fit : (kind : Kind) → length (linesBy kind word a) ≤ 200 + length word

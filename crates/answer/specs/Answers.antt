@@ -1,43 +1,52 @@
--- Document 01, "Answer text": whole answers. Assumes nothing.
+-- An answer as the code hands it over, by its kind: what the crates promise each other. No call of the box reaches these; a law ties them to what
+-- a request is answered with (`steps/proofs/ReplyLaws`). Assumes nothing.
 use Prim.Native.Nat.{ℕ}
-use mathlib.Core.Bool.{cond}
+use mathlib.Core.Bool.{cond, _&&_}
 use mathlib.Core.List.{List, []}
-use lib.Dec.{eqb}
+use lib.Dec.{eqb, leb, ltb}
+use lib.ListN.{length}
 use Rattle.scan.specs.Text.{text, _&_}
-use Rattle.answer.specs.Lines.{textAt, statusLine, cseqLine, sessionLine, publicLine, allowLine, unsupportedLine, transportLine, streamLine, rtpInfoLine}
+use Rattle.scan.specs.Lists.{part}
+use Rattle.scan.specs.declared.Span.{Span}
+use Rattle.writing.specs.Writing.{decimal}
+use Rattle.answer.specs.Lines.{reasonOf, sessionLine, publicLine, setupLines, playLines, refusedLines, answerLines}
 use Rattle.answer.specs.declared.Kind.{Kind}
 use Rattle.answer.specs.declared.Kind.the-variants.{Bare, Allow, Public, Unsupported, Options, Setup, Play, Teardown}
 use Rattle.answer.specs.declared.Answer.{Answer}
 
--- "OPTIONS `Session: ` (if sent) and `Public: ..`"
-abbrev pub optionsLines : Answer → List ℕ
-optionsLines a = cond (eqb (a .session) 0) publicLine (sessionLine (a .session) (text "\r\n") & publicLine)
+-- the reason of a status from a number on; none of those below it
+abbrev pub reasonFrom : ℕ → ℕ → List ℕ
+reasonFrom from status = cond (ltb status from) [] (text (reasonOf status))
 
--- "SETUP Session with `;timeout=60`, `Transport: ..`, `com.ses.streamID: n`"
-abbrev pub setupLines : Answer → List ℕ
-setupLines a = sessionLine (a .session) (text ";timeout=60\r\n") & transportLine (a .address) (a .port) & streamLine (a .stream)
+-- a name, a number in decimal without leading zeros, and the line's end
+abbrev pub numbered : List ℕ → ℕ → List ℕ
+numbered name v = name & decimal v & text "\r\n"
 
--- "PLAY Session, `RTP-Info: ..`"
-abbrev pub playLines : List ℕ → Answer → List ℕ
-playLines host a = sessionLine (a .session) (text "\r\n") & rtpInfoLine host (a .stream)
+-- what stands at a place of the request; nothing where there is no such place
+unfoldable pub textAt : List ℕ → Span → List ℕ
+textAt request place =
+    cond (leb (place .start) (place .end) && leb (place .end) (length request)) (part (place .start) (place .end) request) []
 
--- what an answer carries after its CSeq, with the host or the Require value that it repeats; "TEARDOWN Session", "501 carries the same Public line"
+-- session 0 is none
+abbrev pub optionsLines : ℕ → List ℕ
+optionsLines session = cond (eqb session 0) publicLine (sessionLine session (text "\r\n") & publicLine)
+
+-- what an answer carries after its CSeq, with the host or the Require value that it repeats
 abbrev pub linesBy : Kind → List ℕ → Answer → List ℕ
 linesBy Bare word a = []
-linesBy Allow word a = allowLine
+linesBy Allow word a = refusedLines 10 word
 linesBy Public word a = publicLine
-linesBy Unsupported word a = unsupportedLine word
-linesBy Options word a = optionsLines a
-linesBy Setup word a = setupLines a
-linesBy Play word a = playLines word a
+linesBy Unsupported word a = refusedLines 5 word
+linesBy Options word a = optionsLines (a .session)
+linesBy Setup word a = setupLines (a .session) (a .address) (a .port) (a .stream)
+linesBy Play word a = playLines (a .session) word (a .stream)
 linesBy Teardown word a = sessionLine (a .session) (text "\r\n")
 
 abbrev pub linesOf : List ℕ → Answer → List ℕ
 linesOf word a = linesBy (a .kind) word a
 
--- "`RTSP/1.0 `, code, space, reason; then `CSeq: n`; then ..; An empty line ends it; no body."
 abbrev pub answerWith : List ℕ → Answer → List ℕ
-answerWith word a = statusLine (a .status) & cseqLine (a .cseq) & linesOf word a & text "\r\n"
+answerWith word a = answerLines (a .status) (a .cseq) (linesOf word a)
 
 -- the same where that word stands at a place of the request
 abbrev pub answerText : List ℕ → Answer → List ℕ

@@ -5,8 +5,8 @@ use Prim.Native.Nat.{ℕ}
 use Rattle.scan.specs.Text.{text, _&_}
 use Rattle.writing.specs.Writing.{decimal, hex8, dotted, width, numeral}
 use Rattle.digits.specs.declared.Read.the-variants.{Value}
-use Rattle.answer.specs.Lines.{reasonOf, textAt}
-use Rattle.answer.specs.Answers.{answerText}
+use Rattle.answer.specs.Lines.{reasonOf}
+use Rattle.answer.specs.Answers.{textAt, answerText}
 use Rattle.answer.specs.declared.Kind.{Kind}
 use Rattle.answer.specs.declared.Kind.the-variants.{Bare, Allow, Public, Unsupported, Options, Setup, Play, Teardown}
 use Rattle.answer.specs.declared.Answer.{Answer}

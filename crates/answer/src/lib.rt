@@ -3,16 +3,16 @@
 mod puts;
 
 ghost use Rattle.writing.specs.Wrote.{Wrote};
-ghost use Rattle.answer.specs.Lines.{textAt};
-ghost use Rattle.answer.specs.Answers.{optionsLines, setupLines, playLines, linesOf, answerText};
+ghost use Rattle.answer.specs.Lines.{setupLines, playLines};
+ghost use Rattle.answer.specs.Answers.{textAt, optionsLines, linesOf, answerText};
 use digits::Read;
 use puts::put_allow;
 use puts::put_cseq;
+use puts::put_numbered;
+use puts::put_part;
 use puts::put_public;
-use puts::put_rtp_info;
 use puts::put_session;
 use puts::put_status;
-use puts::put_stream;
 use puts::put_transport;
 use puts::put_unsupported;
 use scan::Span;
@@ -43,7 +43,7 @@ pub struct Answer {
 }
 
 fn put_options(buf: &mut [u8], at: usize, a: Answer) -> usize
-    ensures { λ r. ⌜ Wrote (now (buf .entry)) at (optionsLines a) (now (buf .exit)) r ⌝ }
+    ensures { λ r. ⌜ Wrote (now (buf .entry)) at (optionsLines (a .session)) (now (buf .exit)) r ⌝ }
 {
     if a.session == 0 {
         return put_public(buf, at);
@@ -53,18 +53,20 @@ fn put_options(buf: &mut [u8], at: usize, a: Answer) -> usize
 }
 
 fn put_setup(buf: &mut [u8], at: usize, a: Answer) -> usize
-    ensures { λ r. ⌜ Wrote (now (buf .entry)) at (setupLines a) (now (buf .exit)) r ⌝ }
+    ensures { λ r. ⌜ Wrote (now (buf .entry)) at (setupLines (a .session) (a .address) (a .port) (a .stream)) (now (buf .exit)) r ⌝ }
 {
     let n = put_session(buf, at, a.session, b";timeout=60\r\n");
     let m = put_transport(buf, n, a.address, a.port);
-    put_stream(buf, m, a.stream)
+    put_numbered(buf, m, b"com.ses.streamID: ", a.stream)
 }
 
 fn put_play(buf: &mut [u8], at: usize, a: Answer, request: &[u8]) -> usize
-    ensures { λ r. ⌜ Wrote (now (buf .entry)) at (playLines (textAt (now (request .entry)) (a .text)) a) (now (buf .exit)) r ⌝ }
+    ensures { λ r. ⌜ Wrote (now (buf .entry)) at (playLines (a .session) (textAt (now (request .entry)) (a .text)) (a .stream)) (now (buf .exit)) r ⌝ }
 {
     let n = put_session(buf, at, a.session, b"\r\n");
-    put_rtp_info(buf, n, request, a.text, a.stream)
+    let m = writing::put(buf, n, b"RTP-Info: url=rtsp://");
+    let k = put_part(buf, m, request, a.text);
+    put_numbered(buf, k, b"/stream=", a.stream)
 }
 
 // The lines of an answer's kind.

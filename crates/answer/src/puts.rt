@@ -1,11 +1,14 @@
-// The lines of an answer, one function each; each ends in CR LF.
+// The lines of an answer and what they are made of; a line ends in CR LF.
+ghost use mathlib.Core.List.{[]};
 ghost use Rattle.writing.specs.Wrote.{Wrote};
-ghost use Rattle.answer.specs.Lines.{textAt, reasonFrom501, reasonFrom454, reasonOf, statusLine, cseqLine, sessionLine, publicLine, allowLine, unsupportedLine, transportStart, portsText, transportLine, streamLine, rtpInfoLine};
+ghost use Rattle.scan.specs.Text.{text};
+ghost use Rattle.answer.specs.Lines.{reasonOf, statusLine, cseqLine, sessionLine, publicLine, transportLine, refusedLines};
+ghost use Rattle.answer.specs.Answers.{reasonFrom, textAt};
 use digits::Read;
 use scan::Span;
 
 fn put_reason_from_501(buf: &mut [u8], at: usize, status: u32) -> usize
-    ensures { λ r. ⌜ Wrote (now (buf .entry)) at (reasonFrom501 status) (now (buf .exit)) r ⌝ }
+    ensures { λ r. ⌜ Wrote (now (buf .entry)) at (reasonFrom 501 status) (now (buf .exit)) r ⌝ }
 {
     match status {
         501 => writing::put(buf, at, b"Not Implemented"),
@@ -17,7 +20,7 @@ fn put_reason_from_501(buf: &mut [u8], at: usize, status: u32) -> usize
 }
 
 fn put_reason_from_454(buf: &mut [u8], at: usize, status: u32) -> usize
-    ensures { λ r. ⌜ Wrote (now (buf .entry)) at (reasonFrom454 status) (now (buf .exit)) r ⌝ }
+    ensures { λ r. ⌜ Wrote (now (buf .entry)) at (reasonFrom 454 status) (now (buf .exit)) r ⌝ }
 {
     match status {
         454 => writing::put(buf, at, b"Session Not Found"),
@@ -29,7 +32,7 @@ fn put_reason_from_454(buf: &mut [u8], at: usize, status: u32) -> usize
 
 // The reason phrase of a status; none where document 001 names none that the box gives.
 fn put_reason(buf: &mut [u8], at: usize, status: u32) -> usize
-    ensures { λ r. ⌜ Wrote (now (buf .entry)) at (reasonOf status) (now (buf .exit)) r ⌝ }
+    ensures { λ r. ⌜ Wrote (now (buf .entry)) at (text (reasonOf status)) (now (buf .exit)) r ⌝ }
 {
     match status {
         200 => writing::put(buf, at, b"OK"),
@@ -63,8 +66,8 @@ pub(crate) fn put_cseq(buf: &mut [u8], at: usize, cseq: Read) -> usize
 }
 
 // A name and a number.
-fn put_numbered(buf: &mut [u8], at: usize, name: &[u8], v: u32) -> usize
-    ensures { λ r. ⌜ Wrote (now (buf .entry)) at (Rattle.answer.specs.Lines.numbered (now (name .entry)) v) (now (buf .exit)) r ⌝ }
+pub(crate) fn put_numbered(buf: &mut [u8], at: usize, name: &[u8], v: u32) -> usize
+    ensures { λ r. ⌜ Wrote (now (buf .entry)) at (Rattle.answer.specs.Answers.numbered (now (name .entry)) v) (now (buf .exit)) r ⌝ }
 {
     let n = writing::put(buf, at, name);
     let m = writing::put_decimal(buf, n, v);
@@ -87,13 +90,13 @@ pub(crate) fn put_public(buf: &mut [u8], at: usize) -> usize
 }
 
 pub(crate) fn put_allow(buf: &mut [u8], at: usize) -> usize
-    ensures { λ r. ⌜ Wrote (now (buf .entry)) at allowLine (now (buf .exit)) r ⌝ }
+    ensures { λ r. ⌜ Wrote (now (buf .entry)) at (refusedLines 10 []) (now (buf .exit)) r ⌝ }
 {
     writing::put(buf, at, b"Allow: OPTIONS\r\n")
 }
 
 // What stands at a place of the request; nothing where there is no such place.
-fn put_part(buf: &mut [u8], at: usize, request: &[u8], place: Span) -> usize
+pub(crate) fn put_part(buf: &mut [u8], at: usize, request: &[u8], place: Span) -> usize
     ensures { λ r. ⌜ Wrote (now (buf .entry)) at (textAt (now (request .entry)) place) (now (buf .exit)) r ⌝ }
 {
     let start = place.start;
@@ -108,53 +111,21 @@ fn put_part(buf: &mut [u8], at: usize, request: &[u8], place: Span) -> usize
 }
 
 pub(crate) fn put_unsupported(buf: &mut [u8], at: usize, request: &[u8], value: Span) -> usize
-    ensures { λ r. ⌜ Wrote (now (buf .entry)) at (unsupportedLine (textAt (now (request .entry)) value)) (now (buf .exit)) r ⌝ }
+    ensures { λ r. ⌜ Wrote (now (buf .entry)) at (refusedLines 5 (textAt (now (request .entry)) value)) (now (buf .exit)) r ⌝ }
 {
     let n = writing::put(buf, at, b"Unsupported: ");
     let m = put_part(buf, n, request, value);
     writing::put(buf, m, b"\r\n")
 }
 
-fn put_destination(buf: &mut [u8], at: usize, address: u32) -> usize
-    ensures { λ r. ⌜ Wrote (now (buf .entry)) at (transportStart address) (now (buf .exit)) r ⌝ }
-{
-    let n = writing::put(buf, at, b"Transport: RTP/AVP;unicast;destination=");
-    let m = writing::put_dotted(buf, n, address);
-    writing::put(buf, m, b";client_port=")
-}
-
-// The ports `a-b`.
-fn put_ports(buf: &mut [u8], at: usize, port: u32) -> usize
-    ensures { λ r. ⌜ Wrote (now (buf .entry)) at (portsText port) (now (buf .exit)) r ⌝ }
-{
-    let second = std::num::wrapping_add_u32(port, 1);
-    let n = writing::put_decimal(buf, at, port);
-    put_numbered(buf, n, b"-", second)
-}
-
+// The second of the ports `a-b` is a + 1.
 pub(crate) fn put_transport(buf: &mut [u8], at: usize, address: u32, port: u32) -> usize
     ensures { λ r. ⌜ Wrote (now (buf .entry)) at (transportLine address port) (now (buf .exit)) r ⌝ }
 {
-    let n = put_destination(buf, at, address);
-    put_ports(buf, n, port)
-}
-
-pub(crate) fn put_stream(buf: &mut [u8], at: usize, stream: u32) -> usize
-    ensures { λ r. ⌜ Wrote (now (buf .entry)) at (streamLine stream) (now (buf .exit)) r ⌝ }
-{
-    put_numbered(buf, at, b"com.ses.streamID: ", stream)
-}
-
-pub(crate) fn put_rtp_info(
-    buf: &mut [u8],
-    at: usize,
-    request: &[u8],
-    host: Span,
-    stream: u32,
-) -> usize
-    ensures { λ r. ⌜ Wrote (now (buf .entry)) at (rtpInfoLine (textAt (now (request .entry)) host) stream) (now (buf .exit)) r ⌝ }
-{
-    let n = writing::put(buf, at, b"RTP-Info: url=rtsp://");
-    let m = put_part(buf, n, request, host);
-    put_numbered(buf, m, b"/stream=", stream)
+    let second = std::num::wrapping_add_u32(port, 1);
+    let n = writing::put(buf, at, b"Transport: RTP/AVP;unicast;destination=");
+    let m = writing::put_dotted(buf, n, address);
+    let k = writing::put(buf, m, b";client_port=");
+    let l = writing::put_decimal(buf, k, port);
+    put_numbered(buf, l, b"-", second)
 }

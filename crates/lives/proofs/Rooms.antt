@@ -14,9 +14,9 @@ use Rattle.refusals.specs.declared.Refusal.the-variants as refusal
 use Rattle.reader.specs.Request.{requestRefusal}
 use Rattle.table.specs.Table.{opens, streamOf, isLive}
 use Rattle.table.specs.declared.SatBox.{SatBox}
+use Rattle.refusals.specs.Refusals.{_refuses_or_}
 use Rattle.steps.specs.Asked.{Asked, Lists, askedOf, listsOf}
 use Rattle.steps.specs.Sights.{sightOf}
-use Rattle.steps.specs.Cases.{_refuses_or_}
 use Rattle.steps.specs.Steps.{isSetup, isDead}
 use Rattle.steps.specs.declared.cases.Case.{Case}
 use Rattle.steps.specs.declared.cases.Case.the-variants.{Passed, Full}

@@ -22,7 +22,7 @@ use Rattle.table.specs.Table.{has}
 use Rattle.finding.specs.Finding.{isTaken, nextNumber, drawnFrom, drawn}
 use Rattle.table.specs.declared.Session.{Session}
 use Rattle.table.specs.declared.SatBox.{SatBox}
-use Rattle.steps.specs.Asked.{Asked, Lists, attributes, codesIn, askedOf, listsOf}
+use Rattle.steps.specs.Asked.{Asked, Lists, codesIn, askedOf, listsOf}
 use Rattle.steps.specs.declared.cases.Case.{Case}
 use Rattle.steps.specs.declared.cases.Case.the-variants.{Reading}
 use Rattle.closings.specs.Closing.{sweeping}
@@ -92,7 +92,7 @@ module _ (frontends : ℕ) where
     codes-alike : codesIn frontends (uriOf s) ≡ codesIn 2 (uriOf s)
     unfolding codesIn codeOf
     codes-alike =
-        ap (λ f. map f attributes)
+        ap (λ f. map f (0 ∷ 1 ∷ 2 ∷ 3 ∷ 4 ∷ 5 ∷ 6 ∷ 7 ∷ 8 ∷ 9 ∷ 10 ∷ 11 ∷ 12 ∷ []))
         (fun-ext (λ a. ap (λ code. cond (hasQuery (uriOf s)) code 0) (code-alike a (partsOf (queryOf (uriOf s))) e)))
 
     asked-alike : askedOf frontends s ≡ askedOf 2 s

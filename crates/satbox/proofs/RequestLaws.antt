@@ -28,9 +28,10 @@ use Rattle.steps.specs.Asked.{Asked, Lists, askedOf, listsOf}
 use Rattle.steps.specs.Cases.{isPassed}
 use Rattle.steps.specs.Sights.{sightOf}
 use Rattle.steps.specs.Steps.{isNamed, tableCase}
-use Rattle.steps.specs.Replies.{replyTo, replyText}
+use Rattle.steps.specs.Replies.{replyText}
+use Rattle.steps.specs.Handed.{replyTo}
 use Rattle.steps.specs.declared.cases.Case.the-variants.{Passed, Reading, Combination, TooManyPids, Full}
-use Rattle.steps.proofs.ReplyLaws.{Follows, follows-passed, follows-refused, isReading, unread-chain, table-unread, reply-told, word-short, Numbers, reply-fits}
+use Rattle.steps.proofs.ReplyLaws.{Follows, follows-passed, follows-refused, isReading, unread-chain, table-unread, reply-told, Numbers, reply-fits}
 use Rattle.closings.specs.Does.{Does}
 use Rattle.closings.specs.Closing.{swept, sweeping, atClock}
 use Rattle.serving.specs.Serving.{Serving, merging, merges, isClash, isTooMany, opens, canSeat, changeCase, caseOf, denied, grant, served, clientOf, answered}
@@ -110,7 +111,7 @@ module _ (s : List ℕ) (address draw : ℕ) (t : SatBox) (r : Request) (i : Req
     answer-short : length (answerTo s address draw t) ≤ 4096
     answer-short =
         let x = answered s address draw t in
-        reply-fits (x .case) s (x .session) (subst Numbers (p .session) m) (word-short (t .frontends) s r i (x .case) answered-follows)
+        reply-fits (t .frontends) s r i (x .case) (x .session) answered-follows (subst Numbers (p .session) m)
 
     answer-front : (d ≡ answerTo s address draw t ++ drop (length (answerTo s address draw t)) b) × (n ≡ length (answerTo s address draw t))
     answer-front = wrote-front (wrote-as answer-told w) (omega (arith, answer-short))

@@ -8,7 +8,7 @@ use lib.Dec.{eqb}
 use lib.ListN.{length, drop}
 use Rattle.reader.specs.declared.Request.{Request}
 use Rattle.table.specs.declared.SatBox.{SatBox}
-use Rattle.steps.specs.Asked.{Told}
+use Rattle.steps.specs.Handed.{Told}
 use Rattle.steps.specs.Cases.{isPassed}
 use Rattle.steps.specs.Replies.{replyText}
 use Rattle.steps.specs.declared.cases.Case.{Case}

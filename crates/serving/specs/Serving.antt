@@ -19,9 +19,10 @@ use Rattle.table.specs.Table.{noSession, streamOf, owns}
 use Rattle.finding.specs.Finding.{lowestFrontend, lowestId}
 use Rattle.table.specs.declared.Session.{Session}
 use Rattle.table.specs.declared.SatBox.{SatBox}
+use Rattle.refusals.specs.Refusals.{_refuses_or_}
 use Rattle.steps.specs.Asked.{Asked, Lists, askedOf, listsOf}
 use Rattle.steps.specs.Sights.{portOf, sightOf}
-use Rattle.steps.specs.Cases.{isPassed, _refuses_or_, orElse}
+use Rattle.steps.specs.Cases.{isPassed, orElse}
 use Rattle.steps.specs.Steps.{isSetup, isNamed, tableCase}
 use Rattle.steps.specs.declared.Sight.{Sight}
 use Rattle.steps.specs.declared.cases.Case.{Case}

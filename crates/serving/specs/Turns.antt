@@ -22,7 +22,7 @@ use Rattle.table.specs.Formed.{wellFormed}
 use Rattle.finding.specs.Finding.{lowestPlace, lowestId}
 use Rattle.table.specs.declared.SatBox.{SatBox}
 use Rattle.table.specs.declared.Session.{Session}
-use Rattle.steps.specs.Asked.{askedBy, Told}
+use Rattle.steps.specs.Handed.{askedBy, Told}
 use Rattle.steps.specs.Cases.{isPassed}
 use Rattle.steps.specs.Sights.{sightOf}
 use Rattle.steps.specs.Steps.{isNamed, tableCase}

@@ -1,20 +1,18 @@
 -- What a request is answered with, by the reader's places, is what its bytes say; and every such answer fits its buffer. Assumes nothing.
-use mathlib.Core.Path.{_≡_, refl, ap, _∙_, sym}
+use mathlib.Core.Path.{_≡_, refl, ap, subst, _∙_, sym}
 use mathlib.Core.Bool.{Bool, true, false, not, cond, _&&_}
 use mathlib.Core.List.{List, []}
 use Prim.Native.Nat.{ℕ, _≤_, _<_}
 use native.Mathlib.Omega.{arith}
 use lib.Dec.{eqb, leb, ltb}
 use lib.ListN.{length}
-use borrow.Author.Tests.{eqb-true, eqb-false, le-leb}
-use Rattle.scan.specs.Text.{text, _&_}
-use Rattle.scan.specs.Lists.{Holds}
+use borrow.Author.Tests.{eqb-true, eqb-false, le-leb, leb-true}
+use Rattle.scan.specs.Lists.{part, Holds}
 use Rattle.scan.specs.declared.Span.{Span}
-use Rattle.scan.proofs.Bools.{never, by-test, cond-keeps}
-use Rattle.scan.proofs.Parts.{holds-length}
+use Rattle.scan.proofs.Bools.{never, and-both, by-test, cond-keeps}
+use Rattle.scan.proofs.Parts.{part-length}
 use Rattle.digits.specs.Reading.{readNumber, isValue}
 use Rattle.digits.specs.declared.Zeros.the-variants.{Allowed}
-use Rattle.digits.specs.declared.Read.{Read}
 use Rattle.digits.specs.declared.Read.the-variants.{Nothing}
 use Rattle.digits.proofs.Limits.{Is-read, read-keeps, number-most}
 use Rattle.lines.specs.Lines.{isLaidOut, requestLine, headerLines}
@@ -26,21 +24,23 @@ use Rattle.aim.specs.Aim.{takesNoQuery, hasStream, isGiven, edits, lacksStream,
 use Rattle.refusals.specs.Refusals as reading
 use Rattle.refusals.specs.Refusals.{_refuses_or_}
 use Rattle.aim.specs.declared.Method.{Method}
+use Rattle.aim.specs.declared.Method.the-variants.{Options, Setup, Play, Teardown, Other}
 use Rattle.refusals.specs.declared.Refusal.{Refusal}
 use Rattle.refusals.specs.declared.Refusal.the-variants as refusal
 use Rattle.reader.specs.Fields.{cseqFrom}
 use Rattle.reader.specs.Request.{methodOf, uriOf, isOther, cseqOf, isTwice, isVersion, headRefusal, requestRefusal, RequestIs}
 use Rattle.reader.specs.declared.Request.{Request}
 use Rattle.table.specs.declared.Session.{Session}
-use Rattle.answer.specs.Lines.{textAt, statusLine, cseqLine}
-use Rattle.answer.specs.Answers.{linesBy, answerWith, answerText}
-use Rattle.answer.specs.declared.Kind.{Kind}
+use Rattle.answer.specs.Lines.{_gives_or_, refusedLines, answerLines}
+use Rattle.answer.specs.Answers.{textAt, linesBy, linesOf, answerText}
+use Rattle.answer.specs.declared.Answer.{Answer}
 use Rattle.answer.specs.declared.Kind.the-variants as kind
 use Rattle.answer.proofs.Fits.{Is-small, answer-fits}
 use Rattle.steps.proofs.Telling.{asked-short, head-short}
-use Rattle.steps.specs.Cases.{statusOf, isPassed}
+use Rattle.steps.specs.Cases.{stepOf, statusOf, isPassed}
 use Rattle.steps.specs.Steps.{lacksSession, isDead, isOutOfState, isAnothers, lacksPort, tableCase}
-use Rattle.steps.specs.Replies.{grantedKind, kindOf, reply, replyTo, wordIn, replyText}
+use Rattle.steps.specs.Replies.{grantedLines, replyText}
+use Rattle.steps.specs.Handed.{grantedKind, kindOf, replyTo}
 use Rattle.steps.specs.declared.Sight.{Sight}
 use Rattle.steps.specs.declared.cases.Case.{Case}
 use Rattle.steps.specs.declared.cases.Case.the-variants.{Passed, Reading, NoSession, NotLive, State, NotOwner, Transport, Combination, TooManyPids, Full}
@@ -62,9 +62,9 @@ pub data Follows (r : Request) (c : Case) : Type 0 where
   follows-passed : r .refusal ≡ refusal.Passed → isReading c ≡ false → Follows r c
   follows-refused : c ≡ Reading (r .refusal) → reading.isPassed (r .refusal) ≡ false → Follows r c
 
--- a case that refuses, and is answered without a word
+-- a case that refuses, and is answered without a line of its own
 abbrev Is-bare : Case → Type 0
-Is-bare c = (isPassed c ≡ false) × ((method : Method) → kindOf c method ≡ kind.Bare) × ((s : List ℕ) → wordIn c s ≡ [])
+Is-bare c = (isPassed c ≡ false) × ((method : Method) → kindOf c method ≡ kind.Bare) × ((value : List ℕ) → refusedLines (stepOf c) value ≡ [])
 
 -- what holds of the case that passes, and of every such case, holds of all that are not the reading's
 unread-keeps : (P : Case → Type 0) → P Passed → ((c : Case) → Is-bare c → P c) → (c : Case) → isReading c ≡ false → P c
@@ -106,8 +106,13 @@ text-held : (s ys : List ℕ) (place : Span) → Holds s ys (place .start) (plac
 unfolding textAt
 text-held s ys place h = rw (le-leb (place .start) (place .end) (h .order), le-leb (place .end) (length s) (h .within)) (h .is)
 
-held-short : {s ys : List ℕ} {start end : ℕ} → length s ≤ 2048 → Holds s ys start end → length ys ≤ 2048
-held-short {s} {ys} {start} {end} n h = omega (arith, holds-length h, h .within)
+text-within : (s : List ℕ) (place : Span) → length (textAt s place) ≤ length s
+unfolding textAt
+text-within s place =
+    cond-keeps (λ (l : List ℕ). length l ≤ length s) (leb (place .start) (place .end) && leb (place .end) (length s)) (part (place .start) (place .end) s) []
+    (λ y. let e : place .end ≤ length s = leb-true (place .end) (length s) (and-both (leb (place .start) (place .end)) _ y .1) in
+    omega (arith, part-length (place .start) (place .end) s e))
+    (λ _. omega arith)
 
 text-nowhere : (s : List ℕ) → textAt s nowhere ≡ []
 unfolding textAt
@@ -156,21 +161,26 @@ requires : (frontends : ℕ) (s : List ℕ) → headRefusal s ≡ refusal.Requir
 unfolding requestRefusal
 requires frontends s e = rw e
 
--- which place the word stands at is not written
-placeless : (word : List ℕ) (c : Case) (method : Method) (cseq : Read) (session : Session) (place : Span)
-    → answerWith word (reply c method cseq session place) ≡ answerWith word (reply c method cseq session nowhere)
-placeless word c method cseq session place =
-    ap (λ l. statusLine (statusOf c) & cseqLine cseq & l & text "\r\n") (same (kindOf c method))
+-- the lines of a kind are those of its method or its step
+granted-told : (method : Method) (host : List ℕ) (c : Case) (r : Request) (session : Session) → linesBy (grantedKind method) host (replyTo c r session) ≡ grantedLines method host session
+unfolding replyTo
+granted-told Options host c r session = refl
+granted-told Setup host c r session = refl
+granted-told Play host c r session = refl
+granted-told Teardown host c r session = refl
+granted-told Other host c r session = refl
+
+refused-told : (step : ℕ) (word value : List ℕ) (a : Answer) → (eqb step 5 ≡ true → word ≡ value)
+    → linesBy (eqb step 5 gives kind.Unsupported or eqb step 6 gives kind.Public or eqb step 10 gives kind.Allow or kind.Bare) word a ≡ refusedLines step value
+refused-told step word value a h = by (eqb step 5) (eqb step 6) (eqb step 10) h
   where
-    same : (k : Kind) → linesBy k word (reply c method cseq session place) ≡ linesBy k word (reply c method cseq session nowhere)
-    same kind.Bare = refl
-    same kind.Allow = refl
-    same kind.Public = refl
-    same kind.Unsupported = refl
-    same kind.Options = refl
-    same kind.Setup = refl
-    same kind.Play = refl
-    same kind.Teardown = refl
+    by : (five six ten : Bool) → (five ≡ true → word ≡ value)
+        → linesBy (five gives kind.Unsupported or six gives kind.Public or ten gives kind.Allow or kind.Bare) word a
+        ≡ (five gives refusedLines 5 value or six gives refusedLines 6 value or ten gives refusedLines 10 value or [])
+    by true six ten k = ap (refusedLines 5) (k refl)
+    by false true ten k = refl
+    by false false true k = refl
+    by false false false k = refl
 
 module _ (frontends : ℕ) (s : List ℕ) (r : Request) (i : RequestIs frontends s r) where
   text-none : (reading.stepOf (r .refusal) ≡ 5 → ⊥) → textAt s (r .require) ≡ []
@@ -182,38 +192,44 @@ module _ (frontends : ℕ) (s : List ℕ) (r : Request) (i : RequestIs frontends
   required-by : eqb (reading.stepOf (r .refusal)) 5 ≡ true → headRefusal s ≡ refusal.Require
   required-by e = required frontends s (ap reading.stepOf (sym (i .refusal)) ∙ eqb-true (reading.stepOf (r .refusal)) 5 e)
 
-  word-told : (c : Case) → Follows r c → textAt s (cond (isPassed c) (r .host) (r .require)) ≡ wordIn c s
-  word-told c (follows-passed p n) =
-      unread-keeps (λ x. textAt s (cond (isPassed x) (r .host) (r .require)) ≡ wordIn x s) (text-held s (hostOf (uriOf s)) (r .host) (i .host p))
-      (λ x b. rw (b .0, b .2 s) (text-after p)) c n
-  word-told c (follows-refused e n) =
-      rw (e, n)
-      (by-test (λ t. textAt s (r .require) ≡ cond t (firstValue (valuesOf 3 (headerLines s))) []) (eqb (reading.stepOf (r .refusal)) 5)
-      (λ y. text-held s _ (r .require) (i .require (required-by y)))
-      (λ z. text-none (eqb-false (reading.stepOf (r .refusal)) 5 z)))
+  -- which place of the request is repeated
+  abbrev wordAt : Case → Span
+  wordAt c = cond (isPassed c) (r .host) (r .require)
 
-  kind-told : (c : Case) → Follows r c → kindOf c (r .method) ≡ kindOf c (methodOf s)
-  kind-told c (follows-passed p n) =
-      unread-keeps (λ x. kindOf x (r .method) ≡ kindOf x (methodOf s)) (ap grantedKind (i .method p)) (λ x b. b .1 _ ∙ sym (b .1 _)) c n
-  kind-told c (follows-refused e n) = rw e
+  -- and which lines are written
+  abbrev linesIn : Case → Session → List ℕ
+  linesIn c session = cond (isPassed c) (grantedLines (methodOf s) (hostOf (uriOf s)) session) (refusedLines (stepOf c) (firstValue (valuesOf 3 (headerLines s))))
+
+  lines-told : (c : Case) (session : Session) → Follows r c → linesOf (textAt s (wordAt c)) (replyTo c r session) ≡ linesIn c session
+  unfolding replyTo
+  lines-told c session (follows-passed p n) =
+      unread-keeps (λ x. linesBy (kindOf x (r .method)) (textAt s (wordAt x)) (replyTo x r session) ≡ linesIn x session)
+      (granted-told (r .method) (textAt s (r .host)) Passed r session
+      ∙ ap (λ m. grantedLines m (textAt s (r .host)) session) (i .method p)
+      ∙ ap (λ host. grantedLines (methodOf s) host session) (text-held s (hostOf (uriOf s)) (r .host) (i .host p)))
+      (λ x b. rw (b .1 (r .method), b .0) (sym (b .2 (firstValue (valuesOf 3 (headerLines s)))))) c n
+  lines-told c session (follows-refused e n) =
+      rw e
+      (refused-told (reading.stepOf (r .refusal)) (textAt s (wordAt (Reading (r .refusal)))) (firstValue (valuesOf 3 (headerLines s))) (replyTo (Reading (r .refusal)) r session)
+      (λ y. rw n (text-held s _ (r .require) (i .require (required-by y))))
+      ∙ rw n)
 
   -- THE ANSWER IS WHAT THE REQUEST'S BYTES SAY
   pub reply-told : (c : Case) (session : Session) → Follows r c → answerText s (replyTo c r session) ≡ replyText c s session
   unfolding replyTo replyText
   reply-told c session p =
-      rw (word-told c p, kind-told c p, i .cseq) (placeless (wordIn c s) c (methodOf s) (cseqOf s) session (cond (isPassed c) (r .host) (r .require)))
+      ap (answerLines (statusOf c) (r .cseq)) (lines-told c session p)
+      ∙ ap (λ n. answerLines (statusOf c) n (linesIn c session)) (i .cseq)
 
   -- ITS WORD IS SHORT
-  pub word-short : (c : Case) → Follows r c → length (wordIn c s) ≤ 2048
-  word-short c (follows-passed p n) =
-      unread-keeps (λ x. length (wordIn x s) ≤ 2048) (held-short (asked-short frontends s (sym (i .refusal) ∙ p)) (i .host p))
-      (λ x b. rw (b .2 s) (omega arith)) c n
+  word-short : (c : Case) → Follows r c → length (textAt s (wordAt c)) ≤ 2048
+  word-short c (follows-passed p n) = omega (arith, text-within s (wordAt c), asked-short frontends s (sym (i .refusal) ∙ p))
   word-short c (follows-refused e n) =
-      rw e
-      (cond-keeps (λ (l : List ℕ). length l ≤ 2048) (eqb (reading.stepOf (r .refusal)) 5) (firstValue (valuesOf 3 (headerLines s))) []
+      rw (e, n)
+      (by-test (λ _. length (textAt s (r .require)) ≤ 2048) (eqb (reading.stepOf (r .refusal)) 5)
       (λ y. let h = required-by y in
-      held-short (head-short s (λ z. let k : _≡_ {A = ℕ} 5 1 = ap reading.stepOf (sym h ∙ z) in omega arith)) (i .require h))
-      (λ _. omega arith))
+      omega (arith, text-within s (r .require), head-short s (λ z. let k : _≡_ {A = ℕ} 5 1 = ap reading.stepOf (sym h ∙ z) in omega arith)))
+      (λ z. rw (text-none (eqb-false (reading.stepOf (r .refusal)) 5 z)) (omega arith)))
 
 -- EVERY ANSWER FITS
 status-read : (q : Refusal) → reading.statusOf q < 1000
@@ -262,16 +278,18 @@ pub record Numbers (session : Session) : Type 0 where
   pub address : session .address < 4294967296
   pub port : session .port < 4294967296
 
-pub reply-fits : (c : Case) (s : List ℕ) (session : Session) → Numbers session → length (wordIn c s) ≤ 2048 → length (replyText c s session) ≤ 4096
-unfolding replyText
-reply-fits c s session n h =
-    answer-fits (wordIn c s) (reply c (methodOf s) (cseqOf s) session nowhere)
-    (record {
-      status = omega (arith, status-small c);
-      cseq = cseq-small s;
-      session = n .number;
-      stream = n .stream;
-      address = n .address;
-      port = n .port;
-    })
-    h
+module _ (frontends : ℕ) (s : List ℕ) (r : Request) (i : RequestIs frontends s r) where
+  pub reply-fits : (c : Case) (session : Session) → Follows r c → Numbers session → length (replyText c s session) ≤ 4096
+  unfolding replyTo
+  reply-fits c session p n =
+      subst (λ t. length t ≤ 4096) (reply-told frontends s r i c session p)
+      (answer-fits (textAt s (cond (isPassed c) (r .host) (r .require))) (replyTo c r session)
+      (record {
+        status = omega (arith, status-small c);
+        cseq = subst (Is-read Is-small) (sym (i .cseq)) (cseq-small s);
+        session = n .number;
+        stream = n .stream;
+        address = n .address;
+        port = n .port;
+      })
+      (word-short frontends s r i c p))

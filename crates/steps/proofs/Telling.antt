@@ -34,7 +34,8 @@ use Rattle.reader.specs.declared.fields.Transport.{Transport}
 use Rattle.reader.specs.declared.fields.Transport.the-variants.{Other, Port}
 use Rattle.reader.specs.Request.{uriOf, headRefusal, requestRefusal, RequestIs}
 use Rattle.reader.specs.declared.Request.{Request}
-use Rattle.steps.specs.Asked.{codesIn, askedOf, listsOf, askedBy, listsBy, Told}
+use Rattle.steps.specs.Asked.{codesIn, askedOf, listsOf}
+use Rattle.steps.specs.Handed.{askedBy, listsBy, Told}
 
 -- THE CODES, by the attribute's place
 -- so many numbers from n on

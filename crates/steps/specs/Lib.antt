@@ -3,3 +3,4 @@ pub mod Asked
 pub mod Sights
 pub mod Steps
 pub mod Replies
+pub mod Handed

@@ -25,15 +25,9 @@ numberOf Absent = 0
 numberOf Malformed = 0
 numberOf (Named n) = n
 
--- the place of the open session that has a number; 32 where none has it, and none has 0
-abbrev pub placeOpen : ℕ → SatBox → ℕ
-placeOpen n t = cond (eqb n 0) 32 (placeOf n (t .sessions))
-
--- and that a Session header names
+-- the place of the open session that it names; 32 where there is none
 abbrev pub placeNamed : Sent → SatBox → ℕ
-placeNamed Absent t = 32
-placeNamed Malformed t = 32
-placeNamed (Named n) t = placeOpen n t
+placeNamed sent t = cond (eqb (numberOf sent) 0) 32 (placeOf (numberOf sent) (t .sessions))
 
 -- the first of the two ports; 0 where the Transport is not of its form
 abbrev pub portOf : Transport → ℕ
@@ -55,6 +49,5 @@ sighted a place session frontend =
       frontend = frontend;
     }
 
--- and with what a table has: the session that is named, and the frontend that the stream holds
 unfoldable pub sightOf : SatBox → Asked → Sight
 sightOf t a = sighted a (placeNamed (a .session) t) (sessionAt t (placeNamed (a .session) t)) (streamOf t (a .stream) .frontend)

@@ -1,38 +1,31 @@
 -- Document 01, "The answer, first that applies", steps 11 to 15, in its order. Assumes nothing.
+use Prim.Native.Nat.{ℕ}
 use mathlib.Core.Bool.{Bool, true, false, not, _&&_, _||_}
 use lib.Dec.{eqb, ltb}
+use Rattle.refusals.specs.Refusals.{_refuses_or_}
 use Rattle.aim.specs.declared.Method.{Method}
 use Rattle.aim.specs.declared.Method.the-variants.{Options, Setup, Play, Teardown, Other}
 use Rattle.table.specs.Table.{owns}
-use Rattle.steps.specs.Cases.{_refuses_or_}
 use Rattle.steps.specs.declared.cases.Case.{Case}
 use Rattle.steps.specs.declared.cases.Case.the-variants.{Passed, NoSession, NotLive, State, NotOwner, Transport}
 use Rattle.steps.specs.declared.Sight.{Sight}
 
+abbrev pub methodNumber : Method → ℕ
+methodNumber Options = 0
+methodNumber Setup = 1
+methodNumber Play = 2
+methodNumber Teardown = 3
+methodNumber Other = 4
+
 abbrev pub isSetup : Method → Bool
-isSetup Options = false
-isSetup Setup = true
-isSetup Play = false
-isSetup Teardown = false
-isSetup Other = false
+isSetup m = eqb (methodNumber m) 1
 
--- "absent in PLAY or TEARDOWN"
 abbrev pub needsSession : Method → Bool
-needsSession Options = false
-needsSession Setup = false
-needsSession Play = true
-needsSession Teardown = true
-needsSession Other = false
+needsSession m = eqb (methodNumber m) 2 || eqb (methodNumber m) 3
 
--- "SETUP, PLAY or TEARDOWN"; "OPTIONS does not look it up"
 abbrev pub looksUp : Method → Bool
-looksUp Options = false
-looksUp Setup = true
-looksUp Play = true
-looksUp Teardown = true
-looksUp Other = false
+looksUp m = isSetup m || needsSession m
 
--- whether an open session is named
 abbrev pub isNamed : Sight → Bool
 isNamed v = ltb (v .place) 32
 
@@ -40,20 +33,17 @@ isNamed v = ltb (v .place) 32
 unfoldable pub lacksSession : Sight → Bool
 lacksSession v = not (isNamed v) && (not (v .absent) || needsSession (v .method))
 
--- 12: "SETUP, PLAY or TEARDOWN names a stream not live"
+-- 12: "SETUP, PLAY or TEARDOWN names a stream not live"; "OPTIONS does not look it up"
 unfoldable pub isDead : Sight → Bool
 isDead v = looksUp (v .method) && (not (eqb (v .stream) 0) && eqb (v .frontend) 0)
 
 -- "the stream is not that session's"; "or fe differs from the frontend held"
 abbrev pub isElsewhere : Sight → Bool
-isElsewhere v =
-    not (eqb (v .stream) (v .session .stream)) || (not (eqb (v .fe) 0) && not (eqb (v .fe) (v .frontend)))
+isElsewhere v = not (eqb (v .stream) (v .session .stream)) || (not (eqb (v .fe) 0) && not (eqb (v .fe) (v .frontend)))
 
 -- 13: "With a session, not OPTIONS": those; and "SETUP names no stream, SETUP while that session plays"
 unfoldable pub isOutOfState : Sight → Bool
-isOutOfState v =
-    (isNamed v && looksUp (v .method))
-    && (isElsewhere v || (isSetup (v .method) && (eqb (v .stream) 0 || not (eqb (v .session .playing) 0))))
+isOutOfState v = (isNamed v && looksUp (v .method)) && (isElsewhere v || (isSetup (v .method) && (eqb (v .stream) 0 || not (eqb (v .session .playing) 0))))
 
 -- 14: "A query on a live stream by anyone but its owner's session"
 unfoldable pub isAnothers : Sight → Bool

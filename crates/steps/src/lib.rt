@@ -8,7 +8,7 @@ pub use cases::Case;
 pub use cases::is_passed;
 pub use replies::answer_to;
 ghost use mathlib.Core.Path.{_≡_};
-ghost use Rattle.steps.specs.Asked.{askedBy};
+ghost use Rattle.steps.specs.Handed.{askedBy};
 ghost use Rattle.steps.specs.Sights.{isAbsent, numberOf, portOf, sighted};
 ghost use Rattle.steps.specs.Steps.{tableCase};
 use aim::Method;

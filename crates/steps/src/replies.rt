@@ -2,7 +2,7 @@
 ghost use mathlib.Core.Path.{_≡_};
 ghost use mathlib.Core.Bool.{cond};
 ghost use Rattle.steps.specs.Cases.{isPassed};
-ghost use Rattle.steps.specs.Replies.{refusedKind, grantedKind, kindOf, replyTo};
+ghost use Rattle.steps.specs.Handed.{refusedKind, grantedKind, kindOf, replyTo};
 use crate::cases;
 use crate::cases::Case;
 use aim::Method;

@@ -1,7 +1,8 @@
 -- `answer::puts::put_reason` meets its contract. Assumes nothing.
 use borrow.Author.Needs.{needs}
-use borrow.Author.Tests.{ne-eqb}
+use Rattle.writing.proofs.Writes.{wrote-as}
 use Rattle.answer.specs.Lines.{reasonOf}
+use Rattle.answer.proofs.Reasons.{reason-past-414}
 use Rattle.answer.proofs.puts.put_reason.Statement.{statement}
 use Rattle.answer.proofs.puts.put_reason.Tie as tie
 
@@ -31,18 +32,9 @@ returns-6 c = let c1 = c .before .before in rw (c1 .before .before .before .matc
 
 -- a status from 454 on, or none
 returns-7 : tie.Need-returns-7
-unfolding reasonOf
 returns-7 c =
     let n = c .before .before .before .before .match .rest in
-    rw (
-      ne-eqb _ _ (n .0 .0 .0 .0 .0 .1),
-      ne-eqb _ _ (n .0 .0 .0 .0 .1),
-      ne-eqb _ _ (n .0 .0 .0 .1),
-      ne-eqb _ _ (n .0 .0 .1),
-      ne-eqb _ _ (n .0 .1),
-      ne-eqb _ _ (n .1),
-    )
-    (c .before .before .put-reason-from-454 .ensures)
+    wrote-as (reason-past-414 _ (n .0 .0 .0 .0 .0 .1) (n .0 .0 .0 .0 .1) (n .0 .0 .0 .1) (n .0 .0 .1) (n .0 .1) (n .1)) (c .before .before .put-reason-from-454 .ensures)
 
 pub put-reason-spec : {M : Type 1} → statement M
 put-reason-spec =

@@ -1,32 +1,33 @@
 -- `answer::puts::put_reason_from_501` meets its contract. Assumes nothing.
+use mathlib.Core.Path.{sym}
 use borrow.Author.Needs.{needs}
-use borrow.Author.Tests.{ne-eqb}
+use Rattle.writing.proofs.Writes.{wrote-as}
+use Rattle.answer.specs.Lines.{reasonOf}
+use Rattle.answer.proofs.Reasons.{reason-past-551}
 use Rattle.answer.proofs.puts.put_reason_from_501.Statement.{statement}
 use Rattle.answer.proofs.puts.put_reason_from_501.Tie as tie
 
 returns : tie.Need-returns
+unfolding reasonOf
 returns c = let c1 = c .before .before in rw (c1 .before .before .before .match .keys1) (c1 .put .ensures)
 
 returns-2 : tie.Need-returns-2
+unfolding reasonOf
 returns-2 c = let c1 = c .before .before in rw (c1 .before .before .before .match .keys2) (c1 .put2 .ensures)
 
 returns-3 : tie.Need-returns-3
+unfolding reasonOf
 returns-3 c = let c1 = c .before .before in rw (c1 .before .before .before .match .keys3) (c1 .put3 .ensures)
 
 returns-4 : tie.Need-returns-4
+unfolding reasonOf
 returns-4 c = let c1 = c .before .before in rw (c1 .before .before .before .match .keys4) (c1 .put4 .ensures)
 
 -- a status that has no reason phrase
 returns-5 : tie.Need-returns-5
 returns-5 c =
     let n = c .before .before .before .before .before .match .rest in
-    rw (
-      ne-eqb _ _ (n .0 .0 .0 .1),
-      ne-eqb _ _ (n .0 .0 .1),
-      ne-eqb _ _ (n .0 .1),
-      ne-eqb _ _ (n .1),
-    )
-    (c .before .before .put5 .ensures)
+    wrote-as (sym (reason-past-551 _ (n .0 .0 .0 .1) (n .0 .0 .1) (n .0 .1) (n .1))) (c .before .before .put5 .ensures)
 
 pub put-reason-from-501-spec : {M : Type 1} → statement M
 put-reason-from-501-spec =

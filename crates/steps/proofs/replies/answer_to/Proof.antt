@@ -1,6 +1,6 @@
 -- `steps::replies::answer_to` meets its contract. Assumes nothing.
 use borrow.Author.Needs.{needs}
-use Rattle.steps.specs.Replies.{replyTo}
+use Rattle.steps.specs.Handed.{replyTo}
 use Rattle.steps.proofs.replies.answer_to.Statement.{statement}
 use Rattle.steps.proofs.replies.answer_to.Tie as tie
 
