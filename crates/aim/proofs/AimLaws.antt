@@ -8,15 +8,18 @@ use native.Mathlib.Omega.{arith}
 use lib.Dec.{ltb, eqb}
 use lib.ListN.{length, getD, replicate}
 use borrow.Author.Tests.{lt-ltb, le-ltb}
-use Rattle.scan.specs.Lists.{part, Holds}
+use Rattle.scan.specs.Lists.{part}
+use Rattle.scan.specs.Found.{Holds}
 use Rattle.scan.specs.declared.Span.{Span}
 use Rattle.scan.proofs.Bools.{never, by-cases}
 use Rattle.scan.proofs.Parts.{all-same, holds-nothing, holds-length}
-use Rattle.target.specs.Uri.{isUri, hasQuery, queryOf, UriIs}
+use Rattle.target.specs.Uri.{isUri, hasQuery, queryOf}
+use Rattle.target.specs.Steps.{UriIs}
 use Rattle.target.specs.declared.Uri.{Uri}
-use Rattle.aim.specs.Query.{isQuery, areWithin, textOf, nowhere, QueryIs}
+use Rattle.aim.specs.Query.{isQuery, areWithin, codeFrom, textOf, nowhere}
+use Rattle.aim.specs.Found.{QueryIs, Reached, refusedAim, verdictOf, isSpan, AimIs, judged}
 use Rattle.refusals.specs.Refusals.{_refuses_or_, isPassed}
-use Rattle.aim.specs.Aim.{takesNoQuery, isNumber, hasStream, lacksStream, judged, uriRefusal, Reached, refusedAim, verdictOf, isSpan, AimIs}
+use Rattle.aim.specs.Aim.{takesNoQuery, hasStream, lacksStream, uriRefusal}
 use Rattle.refusals.specs.declared.Refusal.{Refusal}
 use Rattle.refusals.specs.declared.Refusal.the-variants.{Passed, UriLong, UriForm, QueryUntaken, QueryForm, NoStream}
 use Rattle.aim.specs.declared.Method.{Method}
@@ -58,7 +61,7 @@ module _ (frontends : ℕ) (method : Method) (u : List ℕ) {t : Uri} {b : Bool}
   asks = sym (r .is .asked (r .sound)) ∙ r .query
 
   pub stream-named : {s : Bool} → s ≡ not (eqb (t .stream) 0) → s ≡ hasStream u
-  stream-named e = e ∙ ap (λ x. not (isNumber 0 x)) (r .is .stream (r .sound))
+  stream-named e = e ∙ ap (λ x. not (eqb (codeFrom x) 0)) (r .is .stream (r .sound))
 
   chain : uriRefusal frontends method u
       ≡ (b && takesNoQuery method) refuses QueryUntaken or

@@ -1,41 +1,55 @@
 -- The loop over the parts of a query: which attributes are taken, their codes, and where their texts stand. Assumes nothing.
 use mathlib.Core.Path.{_≡_, refl, ap, _∙_, sym}
-use mathlib.Core.Bool.{Bool, true, false, not, cond, _&&_, and-false}
+use mathlib.Core.Bool.{Bool, true, false, not, cond, _&&_, _||_, and-false}
 use mathlib.Core.List.{List, [], _∷_}
 use Prim.Native.Nat.{ℕ, _+_, _-_, _≤_, _<_}
-use native.Mathlib.Decide.{ℕ-discrete}
+use native.Mathlib.Decide.{ℕ-discrete, decLt}
 use native.Mathlib.Omega.{arith}
 use lib.Dec.{ltb, eqb}
-use lib.ListN.{length, drop, getD, set, replicate, length-set}
+use lib.ListN.{length, drop, getD, set, replicate, length-set, length-drop, drop-of-length-le}
 use lib.Seq.{getD-set-same, getD-set-other}
 use borrow.Author.Tests.{ltb-true, lt-ltb, le-ltb, eq-eqb, ne-eqb}
-use Rattle.scan.specs.Lists.{all, part, Holds, FirstOf, FirstFrom}
-use Rattle.scan.specs.Cut.{is, cutFrom}
+use Rattle.scan.specs.Lists.{all, part}
+use Rattle.scan.specs.Found.{Holds, FirstOf, FirstFrom, cutFrom}
+use Rattle.scan.specs.Cut.{is}
 use Rattle.scan.specs.declared.Span.{Span}
 use Rattle.scan.proofs.Bools.{never, by-test, by-cases}
 use Rattle.scan.proofs.Cuts.{cut-start, cut-turn, cut-end}
-use Rattle.scan.proofs.Parts.{part-length, part-part, part-rest, all-same, holds-nothing}
+use Rattle.scan.proofs.Parts.{part-length, part-part, part-rest, all-same, holds-nothing, some-text}
 use Rattle.digits.specs.Reading.{isValue}
 use Rattle.digits.specs.declared.Read.{Read}
 use Rattle.tuning.specs.Attributes.{attributeOf}
 use Rattle.tuning.specs.Values.{valueOf}
-use Rattle.aim.specs.Query.{isPart, equals, valueIn, attributeIn, isAmong, areParts, isQuery, isWithin, areWithin, codeFrom, codeAmong, codeOf, textAmong, textOf, startAmong, startOf, PartIs, nowhere, brokenQuery, QueryIs}
+use Rattle.aim.specs.Query.{attributeIn, areParts, isQuery, areWithin, codeFrom, codeAmong, codeOf, textAmong, textOf, nowhere}
+use Rattle.aim.specs.Found.{isPart, equals, valueIn, isAmong, isWithin, startAmong, startOf, PartIs, brokenQuery, QueryIs}
 use Rattle.aim.specs.declared.query.Part.{Part}
 use Rattle.aim.specs.declared.query.Query.{Query}
 
 -- one part of a query
 pub part-whole : (p : List ℕ) {k a : ℕ} → FirstOf (is 61) p k → k + 1 < length p → a ≡ attributeOf (part 0 k p) → PartIs p (record { attribute = a; value = k + 1 })
 unfolding attributeIn
-part-whole p {k} f h e = record { attribute = rw (← f .is, lt-ltb (k + 1) (length p) h) e; value = ap (λ j. j + 1) (f .is) }
+part-whole p {k} f h e =
+    let n : length (drop (k + 1) p) ≡ length p - (k + 1) = length-drop (k + 1) p in
+    record { attribute = rw (← f .is, some-text (drop (k + 1) p) (omega arith)) e; value = ap (λ j. j + 1) (f .is) }
 
 pub part-broken : (p : List ℕ) {k : ℕ} → FirstOf (is 61) p k → length p ≤ k + 1 → PartIs p (record { attribute = 13; value = k + 1 })
 unfolding attributeIn
-part-broken p {k} f h = record { attribute = rw (← f .is, le-ltb (k + 1) (length p) h); value = ap (λ j. j + 1) (f .is) }
+part-broken p {k} f h = record { attribute = rw (← f .is, drop-of-length-le p {i = k + 1} h); value = ap (λ j. j + 1) (f .is) }
 
 -- an attribute below 13 is named by a part with a value
 is-part : (p : List ℕ) → attributeIn p < 13 → isPart p ≡ true
 unfolding attributeIn
-is-part p h = by-test (λ t. cond t (attributeOf (part 0 (equals p) p)) 13 < 13 → t ≡ true) (isPart p) (λ _ _. refl) (λ _ k. absurd (omega arith)) h
+is-part p h = by-cases (decLt (equals p + 1) (length p)) (λ l. lt-ltb (equals p + 1) (length p) l) none
+  where
+    none : (equals p + 1 < length p → ⊥) → isPart p ≡ true
+    none n =
+        let z : attributeIn p ≡ 13 = rw (drop-of-length-le p {i = equals p + 1} (omega arith)) in
+        absurd (omega arith)
+
+-- an attribute that is not among those taken differs from each
+untaken : (a : ℕ) (taken : List ℕ) → all (λ b. not (eqb a b)) taken ≡ not (isAmong a taken)
+untaken a [] = refl
+untaken a (b ∷ bs) = by-test (λ t. not t && all (λ c. not (eqb a c)) bs ≡ not (t || isAmong a bs)) (eqb a b) (λ _. refl) (λ _. untaken a bs)
 
 -- and its value stands behind the `=`
 pub value-inside : (q : List ℕ) (p e : ℕ) {r : Part} → e ≤ length q → PartIs (part p e q) r → r .attribute ≤ 12 → p + r .value < e
@@ -131,7 +145,7 @@ module _ {frontends : ℕ} {q : List ℕ} {p e : ℕ} {codes : List ℕ} {spans 
   turned = cut-turn 38 p q h (f .is)
 
   form-turned : isQuery q ≡ ltb (r .attribute) 13 && (not (isAmong (r .attribute) (k .taken)) && areParts (r .attribute ∷ k .taken) (cutFrom 38 (e + 1) q))
-  form-turned = sym (k .form) ∙ ap (areParts (k .taken)) turned ∙ rw (← i .attribute)
+  form-turned = sym (k .form) ∙ ap (areParts (k .taken)) turned ∙ rw (← i .attribute, untaken (r .attribute) (k .taken))
 
   pub asking-unknown : 12 < r .attribute → isQuery q ≡ false
   asking-unknown u = form-turned ∙ rw (le-ltb (r .attribute) 13 (omega arith))

@@ -1,2 +1,3 @@
 pub mod Query
 pub mod Aim
+pub mod Found

@@ -1,7 +1,8 @@
 // A URI's query: its form, its attributes' codes, and where their texts stand. Each byte is looked at twice, for `&` and for `=`; a
 // name's bytes once more for each attribute as long, and a value's as `tuning` says.
 ghost use mathlib.Core.Path.{_≡_};
-ghost use Rattle.aim.specs.Query.{PartIs, codeFrom, brokenQuery, QueryIs};
+ghost use Rattle.aim.specs.Query.{codeFrom};
+ghost use Rattle.aim.specs.Found.{PartIs, brokenQuery, QueryIs};
 use digits::Read;
 use scan::Class;
 use scan::Span;

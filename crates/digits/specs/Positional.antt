@@ -1,5 +1,4 @@
--- Numbers by their digits in a base, as values, the highest first. Decimal and hexadecimal text, the octets of an address and the
--- journal's big-endian bytes are all of this form. Assumes nothing.
+-- Numbers by their digits in a base, the highest first: of decimal and hexadecimal text, an address, the journal's bytes. Assumes nothing.
 use Prim.Native.Nat.{ℕ, zero, suc, _+_, _*_, _/_, _%_, _<_}
 use mathlib.Core.List.{List, [], _∷_, _++_}
 use lib.ListN.{getD}

@@ -1,7 +1,7 @@
 // What is free among the places, the stream IDs, the frontends and the session numbers of a table.
 ghost use mathlib.Core.Path.{_≡_};
 ghost use Prim.Native.Nat.{_≤_};
-ghost use Rattle.scan.specs.Lists.{FirstOf};
+ghost use Rattle.scan.specs.Found.{FirstOf};
 ghost use Rattle.table.specs.Formed.{frontendsOf};
 ghost use Rattle.table.specs.Table.{has, isFree, isDead, opens, owns};
 ghost use Rattle.finding.specs.Finding.{lowestId, isHeld, lowestFrontend, drawn};

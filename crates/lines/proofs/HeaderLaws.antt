@@ -7,31 +7,32 @@ use native.Mathlib.Omega.{arith}
 use lib.Dec.{ltb}
 use lib.ListN.{length, drop}
 use borrow.Author.Tests.{lt-ltb, le-ltb}
-use Rattle.scan.specs.Lists.{all, part, FirstOf}
+use Rattle.scan.specs.Lists.{all, part}
+use Rattle.scan.specs.Found.{FirstOf, Trimmed, leading}
 use Rattle.scan.specs.Classes.{isName}
-use Rattle.scan.specs.Trim.{leading, trim, Trimmed}
+use Rattle.scan.specs.Trim.{trim}
 use Rattle.scan.specs.Cut.{is}
 use Rattle.scan.specs.Words.{placeAmong}
 use Rattle.scan.specs.declared.Case.the-variants.{Ignored}
 use Rattle.scan.specs.declared.Span.{Span}
 use Rattle.scan.proofs.Bools.{never}
-use Rattle.scan.proofs.Parts.{part-rest, holds-inside}
-use Rattle.lines.specs.Headers.{colon, isHeader, known}
-use Rattle.lines.specs.Laid.{noHeader, HeaderIs}
+use Rattle.scan.proofs.Parts.{part-rest, holds-inside, named-by}
+use Rattle.lines.specs.Headers.{isHeader, known}
+use Rattle.lines.specs.Laid.{colon, noHeader, HeaderIs}
 use Rattle.lines.specs.declared.Header.{Header}
 
 module _ (line : List ℕ) {k : ℕ} (f : FirstOf (is 58) line k) where
-  tests : isHeader line ≡ ltb 0 k && (ltb k (length line) && all isName (part 0 k line))
-  tests = rw (f .is)
+  tests : isHeader line ≡ ltb k (length line) && (ltb 0 k && all isName (part 0 k line))
+  tests = rw (named-by 58 line f, f .is)
 
   none : {r : Header} → r ≡ noHeader → isHeader line ≡ false → HeaderIs line r
   none e n = rw e (record { kind = rw n; value = λ y. never y n; starts = λ y. never y n; order = omega arith; within = omega arith })
 
   pub header-empty : {r : Header} → r ≡ noHeader → k ≡ 0 → HeaderIs line r
-  header-empty e z = none e (tests ∙ rw z)
+  header-empty e z = none e (tests ∙ rw z (and-false (ltb 0 (length line))))
 
   pub header-bare : {r : Header} → r ≡ noHeader → length line ≤ k → HeaderIs line r
-  header-bare e h = none e (tests ∙ simp (le-ltb k (length line) h, and-false))
+  header-bare e h = none e (tests ∙ rw (le-ltb k (length line) h))
 
   module _ {t : Bool} (a : t ≡ all isName (part 0 k line)) where
     pub header-misnamed : {r : Header} → r ≡ noHeader → t ≡ false → HeaderIs line r

@@ -10,14 +10,15 @@ use lib.Dec.{leb, eqb}
 use lib.ListN.{length, take, drop, getD, drop-of-length-le, List·getD-eq-default}
 use lib.Seq.{drop-drop, drop-cons, getD-drop}
 use borrow.Author.Tests.{leb-true, eq-eqb, ne-eqb, eqb-true}
-use Rattle.scan.specs.Lists.{all, first, part, FirstFrom}
-use Rattle.scan.specs.Classes.{isText, inClass}
+use Rattle.scan.specs.Lists.{all, first, part}
+use Rattle.scan.specs.Found.{FirstFrom, inClass}
+use Rattle.scan.specs.Classes.{isText}
 use Rattle.scan.specs.Trim.{isEmpty}
 use Rattle.scan.specs.Cut.{push}
 use Rattle.scan.specs.declared.Class.the-variants.{NotText}
 use Rattle.scan.proofs.Bools.{never, and-both, by-test, by-cases}
-use Rattle.lines.specs.Lines.{lines, isEnd, areHeaders, areLines}
-use Rattle.lines.specs.Laid.{isPairAt}
+use Rattle.lines.specs.Lines.{lines, isEnd}
+use Rattle.lines.specs.Laid.{areHeaders, areAll, isPairAt}
 use Rattle.lines.specs.Headers.{isHeader}
 
 -- CR LF at a place, counted by successors
@@ -90,7 +91,7 @@ bad-headers (l ∷ []) b = by-test (λ t. cond t false (all isText l && (isHeade
 bad-headers ([] ∷ m ∷ ls) b = never b refl
 bad-headers ((x ∷ l) ∷ m ∷ ls) b = by-test (λ t. not t ≡ true → t && (isHeader (x ∷ l) && areHeaders (m ∷ ls)) ≡ false) (all isText (x ∷ l)) (λ _ c. never c refl) (λ _ _. refl) b
 
-bad-lines : (ls : List (List ℕ)) → areBad ls ≡ true → areLines ls ≡ false
+bad-lines : (ls : List (List ℕ)) → areBad ls ≡ true → areAll ls ≡ false
 bad-lines [] b = refl
 bad-lines (l ∷ []) b = by-test (λ t. cond t false (all isText l && false) ≡ false) (isEmpty l) (λ _. refl) (λ _. and-false (all isText l))
 bad-lines ([] ∷ m ∷ ls) b = never b refl
@@ -100,7 +101,7 @@ bad-lines ((x ∷ l) ∷ m ∷ ls) b = by-test (λ t. not t ≡ true → t && ar
 some-lines : (xs : List ℕ) → isEnd ([] ∷ lines xs) ≡ false
 some-lines [] = refl
 some-lines (x ∷ []) = refl
-some-lines (x ∷ y ∷ xs) = by-test (λ t. isEnd ([] ∷ cond t ([] ∷ lines xs) (push x (lines (y ∷ xs)))) ≡ false) (eqb x 13 && eqb y 10) (λ _. refl) (λ _. pushed (lines (y ∷ xs)))
+some-lines (x ∷ y ∷ xs) = by-test (λ t. isEnd ([] ∷ cond t ([] ∷ lines xs) (push x (lines (y ∷ xs)))) ≡ false) (eqb x 13 && eqb y 10) (λ _. rw (ne-eqb (length ([] ∷ [] ∷ lines xs)) 1 (λ q. omega arith)) (and-false (all isEmpty (lines xs)))) (λ _. pushed (lines (y ∷ xs)))
   where
     pushed : (ls : List (List ℕ)) → isEnd ([] ∷ push x ls) ≡ false
     pushed [] = refl
@@ -142,7 +143,7 @@ module _ (s : List ℕ) {p e : ℕ} (f : FirstFrom (inClass NotText) s p e) {t :
   pub no-headers : t ≡ false → areHeaders (lines (drop p s)) ≡ false
   no-headers n = bad-headers (lines (drop p s)) (line-breaks (drop p s) (there ∙ n))
 
-  pub no-lines : t ≡ false → areLines (lines (drop p s)) ≡ false
+  pub no-lines : t ≡ false → areAll (lines (drop p s)) ≡ false
   no-lines n = bad-lines (lines (drop p s)) (line-breaks (drop p s) (there ∙ n))
 
 -- the empty line at p is the last one exactly if nothing follows it

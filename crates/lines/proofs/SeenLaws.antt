@@ -10,19 +10,19 @@ use lib.Dec.{eqb}
 use lib.ListN.{length, drop, getD, set, replicate, length-append, length-set, drop-of-length-le}
 use lib.Seq.{getD-set-same, getD-set-other}
 use borrow.Author.Tests.{le-leb, lt-leb, eqb-true, eq-eqb, ne-eqb}
-use Rattle.scan.specs.Lists.{all, part, Holds, FirstFrom}
-use Rattle.scan.specs.Classes.{inClass}
+use Rattle.scan.specs.Lists.{all, part}
+use Rattle.scan.specs.Found.{Holds, FirstFrom, inClass, isWord}
 use Rattle.scan.specs.Trim.{isEmpty}
 use Rattle.scan.specs.Cut.{cut}
-use Rattle.scan.specs.Words.{isWord, placeAmong}
+use Rattle.scan.specs.Words.{placeAmong}
 use Rattle.scan.specs.declared.Case.the-variants.{Ignored}
 use Rattle.scan.specs.declared.Class.the-variants.{NotText}
 use Rattle.scan.proofs.Bools.{never, by-test, by-cases, cond-keeps}
 use Rattle.scan.proofs.Loops.{first-within}
 use Rattle.scan.proofs.Parts.{part-length, part-empty, all-same, some-part, holds-nothing, holds-inside}
-use Rattle.lines.specs.Headers.{known, nameOf, isHeader, headerOf, valueOf, valueAt, valuesOf, firstStart}
-use Rattle.lines.specs.Lines.{lines, areHeaders, areLines, isLaidOut, requestLine, headerLines, untilEmpty}
-use Rattle.lines.specs.Laid.{HeaderIs, SeenIs, unseen, seenAgain, isPairAt, brokenLines, HeadersAre, LinesAre}
+use Rattle.lines.specs.Headers.{known, isHeader, headerOf, valuesOf}
+use Rattle.lines.specs.Laid.{nameOf, valueOf, valueAt, firstStart, HeaderIs, SeenIs, unseen, seenAgain, isPairAt, brokenLines, HeadersAre, LinesAre, areHeaders, areAll}
+use Rattle.lines.specs.Lines.{lines, isLaidOut, requestLine, headerLines, untilEmpty}
 use Rattle.lines.specs.declared.Seen.{Seen}
 use Rattle.lines.specs.declared.Header.{Header}
 use Rattle.lines.specs.declared.Lines.{Lines}
@@ -230,7 +230,7 @@ unfolding isLaidOut
 lines-long s h e = lines-broken (rw (lt-leb (length s) 2048 h)) e
 
 module _ (s : List ℕ) {e : ℕ} (short : length s ≤ 2048) (f : FirstFrom (inClass NotText) s 0 e) {t : Bool} (q : t ≡ isPairAt s e) where
-  laid : isLaidOut s ≡ areLines (lines s)
+  laid : isLaidOut s ≡ areAll (lines s)
   unfolding isLaidOut
   laid = rw (le-leb (length s) 2048 short)
 
@@ -243,7 +243,7 @@ module _ (s : List ℕ) {e : ℕ} (short : length s ≤ 2048) (f : FirstFrom (in
     alone z = line-turn s f q y ∙ ap (λ l. l ∷ lines (drop (e + 2) s)) (part-empty 0 e s (omega arith))
 
     laid-alone : e ≡ 0 → isLaidOut s ≡ eqb 2 (length s)
-    laid-alone z = laid ∙ ap areLines (alone z) ∙ last-line s (e + 2) (line-fits s f q y) ∙ ap (λ n. eqb (n + 2) (length s)) z
+    laid-alone z = laid ∙ ap areAll (alone z) ∙ last-line s (e + 2) (line-fits s f q y) ∙ ap (λ n. eqb (n + 2) (length s)) z
 
     pub lines-alone : e ≡ 0 → length s ≡ 2 → LinesAre s (record { headers = replicate 6 unseen; sound = true; line = 0 })
     unfolding requestLine headerLines
@@ -268,7 +268,7 @@ module _ (s : List ℕ) {e : ℕ} (short : length s ≤ 2048) (f : FirstFrom (in
         let some : isEmpty (part 0 e s) ≡ false = some-part s 0 e (omega arith) (omega arith) in
         let long : length (part 0 e s) ≡ e = part-length 0 e s (omega arith) ∙ sub-zero e in
         record {
-          sound = h .sound ∙ sym (laid ∙ ap areLines turn ∙ rw (some, line-text s f q));
+          sound = h .sound ∙ sym (laid ∙ ap areAll turn ∙ rw (some, line-text s f q));
           line = λ w. rw (turn, h .ended w) (record { order = omega arith; within = omega arith; is = refl });
           headers = λ w k. rw turn (h .headers w k);
           starts = λ w k. rw (turn, long) (h .starts w k);

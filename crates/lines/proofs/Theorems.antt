@@ -8,12 +8,12 @@ use native.Mathlib.Omega.{arith}
 use borrow.Author.Tests.{ne-eqb}
 use Rattle.scan.specs.Lists.{all}
 use Rattle.scan.specs.Classes.{isText}
-use Rattle.scan.specs.Compare.{small}
+use Rattle.scan.specs.Found.{small}
 use Rattle.scan.specs.Trim.{isEmpty}
 use Rattle.scan.specs.declared.Case.the-variants.{Ignored}
 use Rattle.scan.proofs.Places.{place-by}
-use Rattle.lines.specs.Headers.{known, nameOf, isHeader, headerOf, valueOf, valuesOf}
-use Rattle.lines.specs.Lines.{areHeaders}
+use Rattle.lines.specs.Headers.{known, isHeader, headerOf, valuesOf}
+use Rattle.lines.specs.Laid.{nameOf, valueOf, areHeaders}
 
 -- header lines whose names differ in case alone
 pub data Recased : List (List ℕ) → List (List ℕ) → Type 0 where

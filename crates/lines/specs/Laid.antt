@@ -1,17 +1,37 @@
--- What one pass over a request's lines finds: whether the layout is whole, and where the request line and the known headers stand.
--- Assumes nothing.
+-- What one pass over a request's lines finds: whether the layout is whole, and where the request line and the known headers stand. The crates
+-- promise it each other; no call of the box reaches it. Assumes nothing.
 use Prim.Native.Nat.{ℕ, _+_, _≤_, min}
 use mathlib.Core.Path.{_≡_}
 use mathlib.Core.Bool.{Bool, true, false, cond, _&&_}
 use mathlib.Core.List.{List}
 use lib.Dec.{eqb}
 use lib.ListN.{length, drop, getD, replicate}
-use Rattle.scan.specs.Lists.{Holds}
-use Rattle.lines.specs.Headers.{isHeader, headerOf, valueOf, valueAt, valuesOf, firstValue, firstStart}
-use Rattle.lines.specs.Lines.{lines, areHeaders, untilEmpty, isLaidOut, requestLine, headerLines}
+use Rattle.scan.specs.Found.{Holds, placeIn, leading}
+use Rattle.lines.specs.Headers.{isHeader, headerOf, valuesOf, firstValue}
+use Rattle.lines.specs.Lines.{lines, areLines, untilEmpty, isLaidOut, requestLine, headerLines}
 use Rattle.lines.specs.declared.Seen.{Seen}
 use Rattle.lines.specs.declared.Header.{Header}
 use Rattle.lines.specs.declared.Lines.{Lines}
+use Rattle.scan.specs.Lists.{first}
+use Rattle.scan.specs.Cut.{is, before, after}
+use Rattle.scan.specs.Trim.{trim}
+
+abbrev pub colon : List ℕ → ℕ
+colon line = first (is 58) line
+
+abbrev pub nameOf : List ℕ → List ℕ
+nameOf line = before 58 line
+
+abbrev pub valueOf : List ℕ → List ℕ
+valueOf line = trim (after 58 line)
+
+-- where a header's value starts in its line
+abbrev pub valueAt : List ℕ → ℕ
+valueAt line = colon line + 1 + leading (drop (colon line + 1) line)
+
+-- where the first value of a kind starts, of header lines from place `at` on, with CR LF between two: 0 where there is none
+abbrev pub firstStart : ℕ → ℕ → List (List ℕ) → ℕ
+firstStart k at hs = placeIn (λ h. eqb (headerOf h) k) valueAt 2 at hs
 
 -- one line: its kind, 6 where it is no header, and where its value stands
 pub record HeaderIs (line : List ℕ) (r : Header) : Type 0 where
@@ -36,6 +56,13 @@ unseen = record { times = 0; start = 0; end = 0 }
 abbrev pub seenAgain : Seen → ℕ → ℕ → Seen
 seenAgain seen start end =
     cond (eqb (seen .times) 0) (record { times = 1; start = start; end = end }) (record { times = 2; start = seen .start; end = seen .end })
+
+-- the lines from the second on, and from the first on
+abbrev pub areHeaders : List (List ℕ) → Bool
+areHeaders ls = areLines isHeader ls
+
+abbrev pub areAll : List (List ℕ) → Bool
+areAll ls = areLines (λ l. true) ls
 
 -- CR LF stands at the place
 abbrev pub isPairAt : List ℕ → ℕ → Bool

@@ -1,10 +1,10 @@
 -- "Layout: the bytes are lines ended by CR LF, the last line empty and no other; CR and LF occur only as that pair; all other bytes are 32
 -- to 126." Assumes nothing.
 use Prim.Native.Nat.{ℕ}
-use mathlib.Core.Bool.{Bool, false, cond, _&&_}
+use mathlib.Core.Bool.{Bool, false, cond, _&&_, true}
 use mathlib.Core.List.{List, [], _∷_}
 use lib.Dec.{leb, eqb}
-use lib.ListN.{length}
+use lib.ListN.{length, getD, drop}
 use Rattle.scan.specs.Lists.{all}
 use Rattle.scan.specs.Classes.{isText}
 use Rattle.scan.specs.Trim.{isEmpty}
@@ -19,31 +19,16 @@ lines (x ∷ y ∷ xs) = cond (eqb x 13 && eqb y 10) ([] ∷ lines xs) (push x (
 
 -- nothing stands after the last pair
 abbrev pub isEnd : List (List ℕ) → Bool
-isEnd [] = false
-isEnd (l ∷ []) = isEmpty l
-isEnd (l ∷ m ∷ ls) = false
+isEnd ls = all isEmpty ls && eqb (length ls) 1
 
--- from the second line on: "Each line after the first and before the last is a header", and the last is the empty one
-abbrev pub areHeaders : List (List ℕ) → Bool
-areHeaders [] = false
-areHeaders (l ∷ ls) = cond (isEmpty l) (isEnd ls) (all isText l && (isHeader l && areHeaders ls))
-
-abbrev pub areLines : List (List ℕ) → Bool
-areLines [] = false
-areLines (l ∷ ls) = cond (isEmpty l) (isEnd ls) (all isText l && areHeaders ls)
+-- the empty line is the last; "Each line after the first and before the last is a header", and the first passes a test of its own
+abbrev pub areLines : (List ℕ → Bool) → List (List ℕ) → Bool
+areLines test [] = false
+areLines test (l ∷ ls) = cond (isEmpty l) (isEnd ls) (all isText l && (test l && areLines isHeader ls))
 
 -- step 1: "Layout broken or over 2,048 bytes"
 unfoldable pub isLaidOut : List ℕ → Bool
-isLaidOut s = leb (length s) 2048 && areLines (lines s)
-
--- the first line
-abbrev pub firstOf : List (List ℕ) → List ℕ
-firstOf [] = []
-firstOf (l ∷ ls) = l
-
-abbrev pub restOf : List (List ℕ) → List (List ℕ)
-restOf [] = []
-restOf (l ∷ ls) = ls
+isLaidOut s = leb (length s) 2048 && areLines (λ l. true) (lines s)
 
 -- up to the empty line
 abbrev pub untilEmpty : List (List ℕ) → List (List ℕ)
@@ -51,7 +36,7 @@ untilEmpty [] = []
 untilEmpty (l ∷ ls) = cond (isEmpty l) [] (l ∷ untilEmpty ls)
 
 unfoldable pub requestLine : List ℕ → List ℕ
-requestLine s = firstOf (lines s)
+requestLine s = getD (lines s) 0 []
 
 unfoldable pub headerLines : List ℕ → List (List ℕ)
-headerLines s = untilEmpty (restOf (lines s))
+headerLines s = untilEmpty (drop 1 (lines s))

@@ -8,7 +8,7 @@ use native.Mathlib.Omega.{arith}
 use lib.ListN.{length, take, drop, length-append}
 use lib.Seq.{take-at, length-take-le}
 use Rattle.scan.specs.Lists.{all}
-use Rattle.writing.specs.Wrote.{written}
+use Rattle.writing.specs.Writing.{written}
 use Rattle.writing.proofs.Writes.{written-length}
 use Rattle.journal.specs.Records.{isRecord}
 use Rattle.journal.specs.declared.Record.{Record}

@@ -5,7 +5,7 @@ use Prim.Native.Nat.{ℕ, zero, suc, _+_, _%_, _≤_, _<_}
 use native.Mathlib.Omega.{arith}
 use lib.ListN.{length, take, drop, getD, length-append}
 use lib.Seq.{length-take-le, take-at}
-use Rattle.writing.specs.Wrote.{written}
+use Rattle.writing.specs.Writing.{written}
 use Rattle.writing.proofs.Writes.{written-fits}
 use Rattle.journal.specs.Records.{nextSequence}
 use Rattle.journal.specs.declared.Record.{Record}

@@ -7,7 +7,8 @@ use lib.Dec.{eqb, ltb}
 use lib.ListN.{length, getD}
 use borrow.Author.Tests.{lt-ltb, le-ltb, le-leb, lt-leb, ne-eqb, eqb-false, ltb-true, ltb-false}
 use Rattle.scan.specs.Classes.{isBetween}
-use Rattle.scan.specs.Lists.{first, FirstOf}
+use Rattle.scan.specs.Lists.{first}
+use Rattle.scan.specs.Found.{FirstOf}
 use Rattle.scan.proofs.Bools.{Same, same, other, sames, or-neither}
 use Rattle.stream.specs.Streams.{pastStream}
 use Rattle.stream.specs.Values.{areComplete}

@@ -1,7 +1,7 @@
 // What a frontend is to be set to: off, or the values and PIDs of the stream that holds it.
 ghost use mathlib.Core.Path.{_≡_};
 ghost use lib.Dec.{eqb};
-ghost use Rattle.scan.specs.Lists.{FirstOf};
+ghost use Rattle.scan.specs.Found.{FirstOf};
 ghost use Rattle.orders.specs.Orders.{isFed, playsAsOwner, orderFor, verdictOf, orderOf};
 use stream::Stream;
 use table::Refusal;

@@ -8,8 +8,7 @@ use lib.Dec.{eqb}
 use lib.ListN.{length, getD}
 use lib.Seq.{ext-getD}
 use borrow.Author.Tests.{eqb-false}
-use Rattle.scan.specs.Lists.{Holds}
-use Rattle.scan.specs.Trim.{Trimmed}
+use Rattle.scan.specs.Found.{Holds, Trimmed}
 use Rattle.scan.specs.declared.Span.{Span}
 use Rattle.scan.proofs.Bools.{never, Case, is, isnt, case}
 use Rattle.scan.proofs.Parts.{holds-length}
@@ -19,18 +18,19 @@ use Rattle.lines.specs.Headers.{valuesOf}
 use Rattle.lines.specs.Laid.{SeenIs, LinesAre, unseen}
 use Rattle.lines.specs.declared.Seen.{Seen}
 use Rattle.lines.specs.declared.Lines.{Lines}
-use Rattle.target.specs.Line.{PartsAre, linePart}
-use Rattle.target.specs.Uri.{UriIs}
+use Rattle.target.specs.Line.{linePart}
+use Rattle.target.specs.Steps.{PartsAre, UriIs}
 use Rattle.target.specs.declared.Parts.{Parts}
 use Rattle.target.specs.declared.Uri.{Uri}
 use Rattle.aim.specs.Query.{nowhere, codeFrom}
 use Rattle.refusals.specs.Refusals.{stepOf, isPassed}
-use Rattle.aim.specs.Aim.{AimIs}
+use Rattle.aim.specs.Found.{AimIs}
 use Rattle.aim.specs.declared.Aim.{Aim}
 use Rattle.aim.specs.declared.Method.{Method as Methods}
 use Rattle.refusals.specs.declared.Refusal.{Refusal}
 use Rattle.refusals.specs.declared.Refusal.the-variants.{Passed, Layout, CSeq, RequestLine, HeaderTwice, Version, Require, Method, UriLong, UriForm, QueryUntaken, QueryForm, PidsClash, PidsUnstreamed, Value, NoStream}
-use Rattle.reader.specs.Request.{RequestIs, headRefusal}
+use Rattle.reader.specs.Request.{headRefusal}
+use Rattle.reader.specs.Heads.{RequestIs}
 use Rattle.reader.specs.declared.Request.{Request}
 use Rattle.reader.proofs.RequestLaws.{passed-is}
 

@@ -11,7 +11,8 @@ use Rattle.scan.specs.Lists.{all}
 use Rattle.scan.proofs.Bools.{Case as Test, case, is, isnt, Same, sames, same, other, and-both, or-second}
 use Rattle.target.specs.Uri.{hasQuery, queryOf}
 use Rattle.tuning.specs.Values.{valueOf}
-use Rattle.aim.specs.Query.{partsOf, attributeIn, valueIn, isWithin, areWithin, codeAmong, codeOf}
+use Rattle.aim.specs.Query.{partsOf, attributeIn, areWithin, codeAmong, codeOf}
+use Rattle.aim.specs.Found.{valueIn, isWithin}
 use Rattle.aim.specs.Aim.{uriRefusal}
 use Rattle.refusals.specs.Refusals.{isPassed}
 use Rattle.refusals.specs.declared.Refusal.{Refusal}

@@ -10,8 +10,7 @@ use borrow.Author.Tests.{le-leb, lt-leb}
 use Rattle.scan.specs.Text.{text, _&_}
 use Rattle.scan.specs.Words.{placeAmong}
 use Rattle.digits.specs.Reading.{readNumber, readHex8}
-use Rattle.writing.specs.Writing.{decimal, hex8, dotted, width, numeral}
-use Rattle.writing.specs.Wrote.{written}
+use Rattle.writing.specs.Writing.{decimal, hex8, dotted, width, numeral, written}
 use Rattle.lines.specs.Lines.{isLaidOut, requestLine, headerLines}
 use Rattle.tuning.specs.Attributes.{attributeOf}
 use Rattle.tuning.specs.Values.{valueOf, frequency, arePids}

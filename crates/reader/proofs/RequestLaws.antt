@@ -8,7 +8,8 @@ use lib.Dec.{ltb, eqb}
 use lib.ListN.{length, getD}
 use borrow.Author.Tests.{lt-ltb, le-ltb, ne-eqb}
 use Rattle.scan.specs.Text.{text}
-use Rattle.scan.specs.Lists.{part, Holds}
+use Rattle.scan.specs.Lists.{part}
+use Rattle.scan.specs.Found.{Holds}
 use Rattle.scan.specs.Compare.{areAlike}
 use Rattle.scan.specs.declared.Span.{Span}
 use Rattle.scan.specs.declared.Case.the-variants.{Counts}
@@ -24,14 +25,15 @@ use Rattle.lines.specs.Headers.{valuesOf, firstValue}
 use Rattle.lines.specs.Laid.{unseen, SeenIs, valueStart, LinesAre}
 use Rattle.lines.specs.declared.Seen.{Seen}
 use Rattle.lines.specs.declared.Lines.{Lines}
-use Rattle.target.specs.Line.{isThree, linePart, PartsAre}
+use Rattle.target.specs.Line.{isThree, linePart}
+use Rattle.target.specs.Steps.{PartsAre}
 use Rattle.target.specs.declared.Parts.{Parts}
 use Rattle.reader.specs.Fields.{cseqFrom, sessionOf, sessionIn, transportOf}
-use Rattle.reader.specs.Heads.{textAt, cseqAt, sessionAt, areTwice, Begun, Headed, Passing}
+use Rattle.reader.specs.Heads.{textAt, cseqAt, sessionAt, areTwice, Begun, Headed, Passing, uriStart, refusedRequest, RequestIs, isOther, isVersion}
 use Rattle.aim.specs.Query.{nowhere}
 use Rattle.refusals.specs.Refusals.{_refuses_or_, stepOf, isPassed}
-use Rattle.reader.specs.Request.{methodIn, isOther, cseqOf, isTwice, methodOf, uriOf, uriStart, isVersion, headRefusal, requestRefusal, refusedRequest, RequestIs}
-use Rattle.aim.specs.Aim.{AimIs}
+use Rattle.reader.specs.Request.{methodIn, cseqOf, isTwice, methodOf, uriOf, headRefusal, requestRefusal}
+use Rattle.aim.specs.Found.{AimIs}
 use Rattle.refusals.specs.declared.Refusal.{Refusal}
 use Rattle.refusals.specs.declared.Refusal.the-variants.{Passed, Layout, CSeq, RequestLine, HeaderTwice, Version, Require, UriLong, UriForm, QueryUntaken, QueryForm, PidsClash, PidsUnstreamed, NoStream}
 use Rattle.refusals.specs.declared.Refusal.the-variants.{Method as OtherMethod, Value as Outside}

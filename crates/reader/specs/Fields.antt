@@ -1,12 +1,11 @@
 -- What the known headers say. Their values are given as those that were sent, in their order. Assumes nothing.
 use Prim.Native.Nat.{ℕ, _+_, _%_}
-use mathlib.Core.Bool.{Bool, cond, _&&_}
+use mathlib.Core.Bool.{cond, _&&_}
 use mathlib.Core.List.{List}
 use lib.Dec.{eqb}
 use lib.ListN.{length, drop}
 use Rattle.scan.specs.Text.{text}
-use Rattle.scan.specs.Lists.{first, part}
-use Rattle.scan.specs.Cut.{is}
+use Rattle.scan.specs.Cut.{before, after}
 use Rattle.digits.specs.Reading.{readNumber, atLeast, readHex8}
 use Rattle.digits.specs.declared.Read.{Read}
 use Rattle.digits.specs.declared.Read.the-variants.{Value, Nothing}
@@ -28,26 +27,19 @@ sessionFrom (Value n) = Named n
 sessionFrom Nothing = Malformed
 
 unfoldable pub sessionIn : List ℕ → Session
-sessionIn v = sessionFrom (readHex8 (part 0 (first (is 59) v) v))
+sessionIn v = sessionFrom (readHex8 (before 59 v))
 
 unfoldable pub sessionOf : List (List ℕ) → Session
 sessionOf vs = cond (eqb (length vs) 0) Absent (sessionIn (firstValue vs))
 
 -- step 15's reading: "exactly `RTP/AVP;unicast;client_port=a-b`, decimal without leading zeros, a even, 1024 to 65534, b = a + 1"
-abbrev pub isPair : ℕ → ℕ → Bool
-isPair a b = eqb (a % 2) 0 && eqb b (a + 1)
-
 abbrev pub portFrom : Read → Read → Transport
-portFrom (Value a) (Value b) = cond (isPair a b) (Port a) Other
+portFrom (Value a) (Value b) = cond (eqb (a % 2) 0 && eqb b (a + 1)) (Port a) Other
 portFrom (Value a) Nothing = Other
 portFrom Nothing b = Other
 
-abbrev pub dash : List ℕ → ℕ
-dash ports = first (is 45) ports
-
 abbrev pub portsIn : List ℕ → Transport
-portsIn ports =
-    portFrom (atLeast 1024 (readNumber Refused 5 65534 (part 0 (dash ports) ports))) (readNumber Refused 5 65535 (drop (dash ports + 1) ports))
+portsIn ports = portFrom (atLeast 1024 (readNumber Refused 5 65534 (before 45 ports))) (readNumber Refused 5 65535 (after 45 ports))
 
 unfoldable pub transportOf : List ℕ → Transport
 transportOf v = cond (startsWith (text "RTP/AVP;unicast;client_port=") v) (portsIn (drop 28 v)) Other

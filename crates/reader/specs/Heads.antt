@@ -1,32 +1,66 @@
--- What the private functions answer of a header's place, and how far a request has come between them. Assumes nothing.
-use Prim.Native.Nat.{ℕ, _+_, _≤_, _<_}
+-- What the functions of this crate promise each other and the crates above: what a header's place holds, how far a request has come between
+-- them, and where in it stands what it asks. No call of the box reaches it. Assumes nothing.
+use Prim.Native.Nat.{ℕ, _+_, _≤_, _<_, _%_}
 use mathlib.Core.Path.{_≡_}
-use mathlib.Core.Bool.{Bool, true, false, cond, _||_}
-use mathlib.Core.List.{List}
+use mathlib.Core.Bool.{Bool, true, false, cond, _||_, _&&_}
+use mathlib.Core.List.{List, [], _∷_}
 use lib.Dec.{ltb, eqb}
-use lib.ListN.{length, getD}
-use Rattle.scan.specs.Lists.{part, Holds}
+use lib.ListN.{length, getD, replicate}
+use Rattle.scan.specs.Lists.{part, first}
+use Rattle.scan.specs.Found.{Holds}
 use Rattle.digits.specs.Reading.{readNumber, isValue}
 use Rattle.digits.specs.declared.Read.{Read}
 use Rattle.digits.specs.declared.Read.the-variants.{Value as Number, Nothing}
 use Rattle.digits.specs.declared.Zeros.the-variants.{Allowed}
-use Rattle.lines.specs.Lines.{headerLines}
-use Rattle.lines.specs.Headers.{valuesOf}
-use Rattle.lines.specs.Laid.{unseen, SeenIs, LinesAre}
+use Rattle.lines.specs.Lines.{headerLines, requestLine}
+use Rattle.lines.specs.Headers.{valuesOf, firstValue}
+use Rattle.lines.specs.Laid.{unseen, SeenIs, LinesAre, valueStart}
 use Rattle.lines.specs.declared.Seen.{Seen}
 use Rattle.lines.specs.declared.Lines.{Lines}
-use Rattle.target.specs.Line.{PartsAre}
+use Rattle.target.specs.Steps.{PartsAre}
 use Rattle.target.specs.declared.Parts.{Parts}
-use Rattle.reader.specs.Fields.{sessionIn}
+use Rattle.reader.specs.Fields.{sessionIn, sessionOf, transportOf}
 use Rattle.target.specs.Uri.{streamOf, hostOf}
 use Rattle.aim.specs.Query.{nowhere}
 use Rattle.refusals.specs.Refusals.{isPassed}
-use Rattle.reader.specs.Request.{cseqOf, isTwice, isVersion, methodOf, uriOf, uriStart, requestRefusal}
-use Rattle.aim.specs.Aim.{queryIn, queryStart, textIn, startIn, codeIn}
+use Rattle.reader.specs.Request.{cseqOf, isTwice, methodOf, uriOf, requestRefusal, headRefusal}
+use Rattle.aim.specs.Aim.{queryIn, textIn, codeIn, placeOf}
+use Rattle.aim.specs.Found.{queryStart, startIn}
 use Rattle.aim.specs.declared.Method.{Method}
 use Rattle.aim.specs.declared.Aim.{Aim}
 use Rattle.reader.specs.declared.fields.Session.{Session}
 use Rattle.reader.specs.declared.fields.Session.the-variants.{Absent}
+use Rattle.scan.specs.declared.Span.{Span}
+use Rattle.target.specs.Line.{linePart}
+use Rattle.refusals.specs.declared.Refusal.{Refusal}
+use Rattle.refusals.specs.declared.Refusal.the-variants.{Passed, Require}
+use Rattle.aim.specs.declared.Method.the-variants.{Other, Options, Setup, Play, Teardown}
+use Rattle.reader.specs.declared.fields.Transport.the-variants.{Other as NoTransport}
+use Rattle.reader.specs.declared.Request.{Request}
+use Rattle.scan.specs.Cut.{is}
+use Rattle.scan.specs.Text.{text}
+use Rattle.scan.specs.Compare.{areAlike}
+use Rattle.scan.specs.declared.Case.the-variants.{Counts}
+
+-- where the URI starts: behind the method and a space
+abbrev pub uriStart : List ℕ → ℕ
+uriStart s = length (linePart 0 (requestLine s)) + 1
+
+abbrev pub isPair : ℕ → ℕ → Bool
+isPair a b = eqb (a % 2) 0 && eqb b (a + 1)
+
+abbrev pub dash : List ℕ → ℕ
+dash ports = first (is 45) ports
+
+-- the method of a place among the words
+abbrev pub methodAt : ℕ → Method
+methodAt k = getD (Options ∷ Setup ∷ Play ∷ Teardown ∷ []) k Other
+
+abbrev pub isOther : Method → Bool
+isOther method = eqb (placeOf method) 4
+
+abbrev pub isVersion : List ℕ → Bool
+isVersion s = areAlike Counts (linePart 2 (requestLine s)) (text "RTSP/1.0")
 
 abbrev pub textAt : List ℕ → Seen → List ℕ
 textAt s seen = part (seen .start) (seen .end) s
@@ -79,3 +113,40 @@ pub record Passing (frontends : ℕ) (s : List ℕ) (l : Lines) (cseq : Read) (m
   pub starts : (k : ℕ) → getD (a .spans) k nowhere .start ≡ startIn k (uriOf s)
   pub session : SeenIs s (valuesOf 1 (headerLines s)) (getD (l .headers) 1 unseen)
   pub transport : SeenIs s (valuesOf 2 (headerLines s)) (getD (l .headers) 2 unseen)
+
+-- what is given of a refused request: why, its CSeq, and for a Require header where its value stands
+abbrev pub refusedRequest : Refusal → Read → Span → Request
+refusedRequest refusal cseq require =
+    record {
+      codes = replicate 13 0;
+      spans = replicate 13 nowhere;
+      refusal = refusal;
+      cseq = cseq;
+      method = Other;
+      stream = 0;
+      host = nowhere;
+      query = nowhere;
+      require = require;
+      session = Absent;
+      transport = NoTransport;
+    }
+
+-- the first of steps 1 to 10 that refuses, or what the request asks and where that stands
+pub record RequestIs (frontends : ℕ) (s : List ℕ) (r : Request) : Type 0 where
+  pub refusal : r .refusal ≡ requestRefusal frontends s
+  pub cseq : r .cseq ≡ cseqOf s
+  pub require : headRefusal s ≡ Require → Holds s (firstValue (valuesOf 3 (headerLines s))) (r .require .start) (r .require .end)
+  pub unrequired : (headRefusal s ≡ Require → ⊥) → r .require ≡ nowhere
+  pub method : r .refusal ≡ Passed → r .method ≡ methodOf s
+  pub stream : r .refusal ≡ Passed → Number (r .stream) ≡ streamOf (uriOf s)
+  pub host : r .refusal ≡ Passed → Holds s (hostOf (uriOf s)) (r .host .start) (r .host .end)
+  pub query : r .refusal ≡ Passed → Holds s (queryIn (uriOf s)) (r .query .start) (r .query .end)
+  pub codes : r .refusal ≡ Passed → (a : ℕ) → getD (r .codes) a 0 ≡ codeIn frontends a (uriOf s)
+  pub spans : r .refusal ≡ Passed → (a : ℕ) → Holds (queryIn (uriOf s)) (textIn a (uriOf s)) (getD (r .spans) a nowhere .start) (getD (r .spans) a nowhere .end)
+  pub session : r .refusal ≡ Passed → r .session ≡ sessionOf (valuesOf 1 (headerLines s))
+  pub transport : r .refusal ≡ Passed → r .transport ≡ transportOf (firstValue (valuesOf 2 (headerLines s)))
+  pub require-starts : headRefusal s ≡ Require → r .require .start ≡ valueStart 3 s
+  pub host-starts : r .refusal ≡ Passed → r .host .start ≡ uriStart s + 7
+  pub query-starts : r .refusal ≡ Passed → r .query .start ≡ uriStart s + queryStart (uriOf s)
+  pub starts : r .refusal ≡ Passed → (a : ℕ) → getD (r .spans) a nowhere .start ≡ startIn a (uriOf s)
+  pub refused : isPassed (r .refusal) ≡ false → r ≡ refusedRequest (r .refusal) (r .cseq) (r .require)

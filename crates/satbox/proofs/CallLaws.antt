@@ -9,7 +9,8 @@ use lib.ListN.{length, take, drop, length-take}
 use borrow.Author.Tests.{eqb-true, ltb-false, not-true}
 use Rattle.scan.specs.Lists.{part}
 use Rattle.scan.proofs.Bools.{never}
-use Rattle.writing.specs.Wrote.{Wrote, written}
+use Rattle.writing.specs.Wrote.{Wrote}
+use Rattle.writing.specs.Writing.{written}
 use Rattle.writing.proofs.Writes.{wrote-front, wrote-as}
 use Rattle.table.specs.Counts.{any}
 use Rattle.table.specs.Formed.{wellFormed}

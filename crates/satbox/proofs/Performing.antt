@@ -9,7 +9,7 @@ use lib.Dec.{eqb, ltb}
 use mathlib.Core.Bool.{true, false, not, _&&_}
 use borrow.Author.Tests.{eq-eqb, ne-eqb, eqb-false, not-true, ltb-false}
 use Rattle.scan.proofs.Bools.{never, and-both, both, Case, case, is, isnt, Same, sames, same, other}
-use Rattle.writing.specs.Wrote.{written}
+use Rattle.writing.specs.Writing.{written}
 use Rattle.writing.proofs.Writes.{written-none}
 use Rattle.journal.specs.Records.{nextSequence}
 use Rattle.journal.specs.Bytes.{encoded}

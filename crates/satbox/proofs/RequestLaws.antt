@@ -8,12 +8,14 @@ use lib.Dec.{eqb, ltb}
 use lib.ListN.{length, drop}
 use borrow.Author.Tests.{ltb-false, not-true}
 use Rattle.scan.proofs.Bools.{cond-keeps}
-use Rattle.writing.specs.Wrote.{Wrote, written}
+use Rattle.writing.specs.Wrote.{Wrote}
+use Rattle.writing.specs.Writing.{written}
 use Rattle.writing.proofs.Writes.{wrote-front, wrote-as}
 use Rattle.refusals.specs.Refusals as reading
 use Rattle.aim.specs.declared.Method.{Method}
 use Rattle.aim.specs.declared.Method.the-variants.{Options, Setup, Play, Teardown, Other}
-use Rattle.reader.specs.Request.{requestRefusal, RequestIs}
+use Rattle.reader.specs.Request.{requestRefusal}
+use Rattle.reader.specs.Heads.{RequestIs}
 use Rattle.reader.specs.declared.Request.{Request}
 use Rattle.reader.proofs.RequestLaws.{passed-is}
 use Rattle.answer.specs.Answers.{answerText}

@@ -8,9 +8,10 @@ use lib.Dec.{ltb, leb·zero, leb·suc-suc}
 use lib.ListN.{length, take, drop, length-drop}
 use lib.Seq.{drop-drop}
 use borrow.Author.Tests.{lt-ltb, ltb-true, ltb-false, le-leb, lt-leb, eq-eqb, eqb-true}
-use Rattle.scan.specs.Lists.{all, first, part, FirstFrom}
+use Rattle.scan.specs.Lists.{all, first, part}
+use Rattle.scan.specs.Found.{FirstFrom, cutFrom}
 use Rattle.scan.proofs.Bools.{never}
-use Rattle.scan.specs.Cut.{is, push, cut, cutFrom, joined}
+use Rattle.scan.specs.Cut.{is, push, cut, joined}
 
 -- the pieces after the separator at place k: none where the list ends there
 abbrev after : ℕ → ℕ → List ℕ → List (List ℕ)

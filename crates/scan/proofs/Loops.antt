@@ -10,7 +10,8 @@ use native.Mathlib.Omega.{arith}
 use lib.ListN.{length, getD, take, drop, length-drop, drop-of-length-le}
 use lib.Seq.{drop-cons, drop-drop}
 use borrow.Author.Tests.{not-false}
-use Rattle.scan.specs.Lists.{all, first, FirstOf, FirstFrom, part}
+use Rattle.scan.specs.Lists.{all, first, part}
+use Rattle.scan.specs.Found.{FirstOf, FirstFrom}
 use Rattle.scan.proofs.Bools.{and-and, and-both}
 use Rattle.scan.proofs.Parts.{part-rest}
 

@@ -1,14 +1,18 @@
 -- Parts of a list: their length, a part of a part, and what a span of a part holds in the whole. Assumes nothing.
 use mathlib.Core.Path.{_≡_, refl, ap, _∙_, sym}
-use mathlib.Core.Bool.{false}
+use mathlib.Core.Bool.{false, _&&_}
 use mathlib.Core.List.{List, [], _∷_, _++_}
 use Prim.Native.Nat.{ℕ, zero, suc, _+_, _-_, _≤_, _<_}
 use native.Mathlib.Nat.{suc-sub-suc, sub-zero, zero-sub}
 use native.Mathlib.Omega.{arith}
 use lib.ListN.{length, getD, take, drop, replicate, length-take, length-drop}
 use lib.Seq.{take-take, drop-drop, take-nil, take-all, take-suc, getD-drop}
-use Rattle.scan.specs.Lists.{part, Holds}
+use Rattle.scan.specs.Lists.{part, all}
+use Rattle.scan.specs.Found.{Holds, FirstOf}
 use Rattle.scan.specs.Trim.{isEmpty}
+use lib.Dec.{ltb}
+use Rattle.scan.specs.Classes.{isName, isNamed}
+use Rattle.scan.specs.Cut.{is, before}
 
 module _ {A : Type 0} where
   drop-take : (i n : ℕ) (l : List A) → drop i (take n l) ≡ take (n - i) (drop i l)
@@ -84,3 +88,9 @@ some-text (x ∷ xs) h = refl
 
 pub some-part : (s : List ℕ) (a e : ℕ) → a < e → e ≤ length s → isEmpty (part a e s) ≡ false
 some-part s a e h k = some-text (part a e s) (rw (part-length a e s k) (omega arith))
+
+-- a name, by the place of the byte that ends it
+pub named-by : (b : ℕ) {k : ℕ} (xs : List ℕ) → FirstOf (is b) xs k → isNamed (before b xs) ≡ ltb 0 k && all isName (part 0 k xs)
+named-by b {k} xs f =
+    let n : length (part 0 k xs) ≡ k = part-length 0 k xs (f .within) ∙ sub-zero k in
+    ap (λ j. isNamed (part 0 j xs)) (sym (f .is)) ∙ ap (λ j. ltb 0 j && all isName (part 0 k xs)) n

@@ -7,7 +7,8 @@ use lib.ListN.{length}
 use Rattle.scan.specs.Lists.{first}
 use Rattle.scan.specs.Compare.{seen, areAlike}
 use Rattle.scan.specs.Cut.{cut}
-use Rattle.scan.specs.Words.{isWord, placeAmong}
+use Rattle.scan.specs.Words.{placeAmong}
+use Rattle.scan.specs.Found.{isWord}
 use Rattle.scan.specs.declared.Case.{Case}
 use Rattle.scan.proofs.Loops.{first-same}
 use Rattle.scan.proofs.Compares.{alike-long, alike-same, alike-by, alike-swapped}

@@ -7,14 +7,10 @@ use Rattle.scan.specs.Classes.{isCapital}
 use Rattle.scan.specs.declared.Case.{Case}
 use Rattle.scan.specs.declared.Case.the-variants.{Counts, Ignored}
 
--- a capital letter's small form, and any other byte itself
-abbrev pub small : ℕ → ℕ
-small b = cond (isCapital b) (b + 32) b
-
--- what is compared of a byte
+-- what is compared of a byte: itself, or for a capital letter whose case is ignored its small form
 abbrev pub seen : Case → ℕ → ℕ
 seen Counts b = b
-seen Ignored b = small b
+seen Ignored b = cond (isCapital b) (b + 32) b
 
 -- as many bytes in both, and each pair the same after f
 abbrev pub alikeBy : (ℕ → ℕ) → List ℕ → List ℕ → Bool

@@ -1,12 +1,23 @@
--- A text cut at a byte: lines at LF, a request line at spaces, a query at ampersands. Assumes nothing.
+-- A text taken apart at a byte: a header at its colon, a request line at its spaces, a query at its ampersands. Assumes nothing.
 use Prim.Native.Nat.{ℕ, _+_}
 use mathlib.Core.Bool.{Bool, cond}
 use mathlib.Core.List.{List, [], _∷_, _++_}
-use lib.Dec.{eqb, leb}
+use lib.Dec.{eqb, ltb}
+use Rattle.scan.specs.Lists.{first, part}
 use lib.ListN.{length, drop}
 
 abbrev pub is : ℕ → ℕ → Bool
 is b x = eqb x b
+
+-- what stands before the first byte b, what after it, and whether there is one
+abbrev pub before : ℕ → List ℕ → List ℕ
+before b xs = part 0 (first (is b) xs) xs
+
+abbrev pub after : ℕ → List ℕ → List ℕ
+after b xs = drop (first (is b) xs + 1) xs
+
+abbrev pub has : ℕ → List ℕ → Bool
+has b xs = ltb (first (is b) xs) (length xs)
 
 -- a byte in front of the first piece
 abbrev pub push : ℕ → List (List ℕ) → List (List ℕ)
@@ -17,16 +28,6 @@ push x (l ∷ ls) = (x ∷ l) ∷ ls
 abbrev pub cut : ℕ → List ℕ → List (List ℕ)
 cut b [] = [] ∷ []
 cut b (x ∷ xs) = cond (is b x) ([] ∷ cut b xs) (push x (cut b xs))
-
--- the pieces from place p on, where a piece starts; none where p is past the end
-abbrev pub cutFrom : ℕ → ℕ → List ℕ → List (List ℕ)
-cutFrom b p s = cond (leb p (length s)) (cut b (drop p s)) []
-
--- where what is sought in a piece stands in the text, of the first piece that passes a test; 0 where none does. The pieces stand from place `at`
--- on with `gap` bytes between two, and `inside` says where it stands in its piece
-abbrev pub placeIn : (List ℕ → Bool) → (List ℕ → ℕ) → ℕ → ℕ → List (List ℕ) → ℕ
-placeIn sought inside gap at [] = 0
-placeIn sought inside gap at (l ∷ ls) = cond (sought l) (at + inside l) (placeIn sought inside gap (at + length l + gap) ls)
 
 -- the pieces joined again, with b between each two
 abbrev pub joined : ℕ → List (List ℕ) → List ℕ

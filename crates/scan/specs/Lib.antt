@@ -5,3 +5,4 @@ pub mod Compare
 pub mod Trim
 pub mod Cut
 pub mod Words
+pub mod Found

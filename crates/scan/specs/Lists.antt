@@ -1,10 +1,8 @@
--- Looking through a list: all elements, the first one, a part. A test is a function to Bool; places count from 0.
--- Assumes nothing.
-use Prim.Native.Nat.{ℕ, suc, _+_, _-_, _≤_, max}
+-- Looking through a list. A test is a function to Bool; places count from 0. Assumes nothing.
+use Prim.Native.Nat.{ℕ, suc, _-_}
 use mathlib.Core.Bool.{Bool, true, cond, _&&_}
-use mathlib.Core.Path.{_≡_}
 use mathlib.Core.List.{List, [], _∷_}
-use lib.ListN.{length, take, drop}
+use lib.ListN.{take, drop}
 
 module _ {A : Type 0} (p : A → Bool) where
   -- every element passes the test
@@ -17,23 +15,11 @@ module _ {A : Type 0} (p : A → Bool) where
   first [] = 0
   first (x ∷ xs) = cond (p x) 0 (suc (first xs))
 
-  -- r is that place
-  pub record FirstOf (xs : List A) (r : ℕ) : Type 0 where
-    pub is : r ≡ first xs
-    pub within : r ≤ length xs
-
-  -- r is the first place from `at` on whose element passes; the length where none does, and `at` where the list ends before it
-  pub record FirstFrom (xs : List A) (at r : ℕ) : Type 0 where
-    pub is : r ≡ at + first (drop at xs)
-    pub from : at ≤ r
-    pub within : r ≤ max at (length xs)
-
 -- from place a up to, not including, place e
 abbrev pub part : {A : Type 0} → ℕ → ℕ → List A → List A
 part a e xs = take (e - a) (drop a xs)
 
--- what stands in xs from start up to end is ys
-pub record Holds {A : Type 0} (xs ys : List A) (start end : ℕ) : Type 0 where
-  pub order : start ≤ end
-  pub within : end ≤ length xs
-  pub is : part start end xs ≡ ys
+-- a chain of tests: the first that applies
+infixr 50 _gives_or_
+abbrev pub _gives_or_ : {A : Type 0} → Bool → A → A → A
+_gives_or_ t x y = cond t x y

@@ -1,5 +1,4 @@
--- Quoted texts as lists of bytes: `text "OK\r\n"`, and `a & b & c` for one after the other. Only ASCII is meant.
--- Assumes nothing.
+-- Quoted texts as lists of bytes, ASCII alone: `text "OK\r\n"`, and `a & b & c` for one after the other. Assumes nothing.
 use Prim.Native.Nat.{ℕ}
 use Prim.Native.Char.{code}
 use Prim.Native.String.{String}

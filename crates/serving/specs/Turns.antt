@@ -10,7 +10,7 @@ use Rattle.refusals.specs.Refusals as reading
 use Rattle.aim.specs.declared.Method.{Method}
 use Rattle.aim.specs.declared.Method.the-variants.{Options, Setup, Play, Teardown, Other}
 use Rattle.refusals.specs.declared.Refusal.{Refusal}
-use Rattle.reader.specs.Request.{RequestIs}
+use Rattle.reader.specs.Heads.{RequestIs}
 use Rattle.reader.specs.declared.Request.{Request}
 use Rattle.stream.specs.Streams.{noStream, blank}
 use Rattle.stream.specs.declared.Stream.{Stream}

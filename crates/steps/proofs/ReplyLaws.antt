@@ -7,7 +7,8 @@ use native.Mathlib.Omega.{arith}
 use lib.Dec.{eqb, leb, ltb}
 use lib.ListN.{length}
 use borrow.Author.Tests.{eqb-true, eqb-false, le-leb, leb-true}
-use Rattle.scan.specs.Lists.{part, Holds}
+use Rattle.scan.specs.Lists.{part}
+use Rattle.scan.specs.Found.{Holds}
 use Rattle.scan.specs.declared.Span.{Span}
 use Rattle.scan.proofs.Bools.{never, and-both, by-test, cond-keeps}
 use Rattle.scan.proofs.Parts.{part-length}
@@ -28,7 +29,8 @@ use Rattle.aim.specs.declared.Method.the-variants.{Options, Setup, Play, Teardo
 use Rattle.refusals.specs.declared.Refusal.{Refusal}
 use Rattle.refusals.specs.declared.Refusal.the-variants as refusal
 use Rattle.reader.specs.Fields.{cseqFrom}
-use Rattle.reader.specs.Request.{methodOf, uriOf, isOther, cseqOf, isTwice, isVersion, headRefusal, requestRefusal, RequestIs}
+use Rattle.reader.specs.Request.{methodOf, uriOf, cseqOf, isTwice, headRefusal, requestRefusal}
+use Rattle.reader.specs.Heads.{isOther, isVersion, RequestIs}
 use Rattle.reader.specs.declared.Request.{Request}
 use Rattle.table.specs.declared.Session.{Session}
 use Rattle.answer.specs.Lines.{_gives_or_, refusedLines, answerLines}

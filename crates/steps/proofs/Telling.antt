@@ -24,15 +24,17 @@ use Rattle.target.specs.Uri.{startsWith, hasQuery, queryOf}
 use Rattle.tuning.specs.Values.{valueOf}
 use Rattle.stream.specs.Arrays.{kept, isFit, areFit, isIn}
 use Rattle.stream.proofs.Fitting.{all-in, fit-of, read-ranged}
-use Rattle.aim.specs.Query.{partsOf, attributeIn, valueIn, codeFrom, codeAmong, codeOf}
+use Rattle.aim.specs.Query.{partsOf, attributeIn, codeFrom, codeAmong, codeOf}
+use Rattle.aim.specs.Found.{valueIn}
 use Rattle.aim.specs.Aim.{queryIn, codeIn}
 use Rattle.refusals.specs.Refusals.{_refuses_or_, stepOf}
 use Rattle.refusals.specs.declared.Refusal.{Refusal}
 use Rattle.refusals.specs.declared.Refusal.the-variants.{Passed, Layout}
-use Rattle.reader.specs.Fields.{transportOf, portsIn, portFrom, isPair, dash}
+use Rattle.reader.specs.Fields.{transportOf, portsIn, portFrom}
+use Rattle.reader.specs.Heads.{isPair, dash, RequestIs}
 use Rattle.reader.specs.declared.fields.Transport.{Transport}
 use Rattle.reader.specs.declared.fields.Transport.the-variants.{Other, Port}
-use Rattle.reader.specs.Request.{uriOf, headRefusal, requestRefusal, RequestIs}
+use Rattle.reader.specs.Request.{uriOf, headRefusal, requestRefusal}
 use Rattle.reader.specs.declared.Request.{Request}
 use Rattle.steps.specs.Asked.{codesIn, askedOf, listsOf}
 use Rattle.steps.specs.Handed.{askedBy, listsBy, Told}

@@ -6,7 +6,8 @@ use mathlib.Core.Bool.{cond}
 use mathlib.Core.List.{List}
 use lib.Dec.{eqb, ltb}
 use lib.ListN.{getD}
-use Rattle.scan.specs.Lists.{part, Holds}
+use Rattle.scan.specs.Lists.{part}
+use Rattle.scan.specs.Found.{Holds}
 use Rattle.scan.specs.declared.Span.{Span}
 use Rattle.aim.specs.Query.{nowhere}
 use Rattle.refusals.specs.Refusals.{stepOf}

@@ -19,7 +19,8 @@ use Rattle.digits.specs.declared.Read.{Read}
 use Rattle.digits.specs.declared.Read.the-variants.{Value, Nothing}
 use Rattle.digits.specs.declared.Zeros.the-variants.{Allowed}
 use Rattle.digits.proofs.Limits.{Is-read, number-between}
-use Rattle.tuning.specs.Values.{plain, word, megahertz, hundredths, inBand, frequencyFrom, frequency, valueOf}
+use Rattle.tuning.specs.Values.{plain, word, megahertz, hundredths, frequencyFrom, frequency, valueOf}
+use Rattle.tuning.specs.Found.{inBand}
 use Rattle.stream.specs.Values.{areInRange, given, merged}
 use Rattle.stream.specs.Arrays.{isInRange, kept, isFit, areFit, isIn}
 use Rattle.stream.specs.declared.Values.{Values}

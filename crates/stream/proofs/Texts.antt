@@ -8,8 +8,9 @@ use native.Mathlib.Omega.{arith}
 use lib.Dec.{eqb, ltb}
 use lib.ListN.{length, take}
 use borrow.Author.Tests.{eq-eqb, ne-eqb}
-use Rattle.scan.specs.Lists.{part, FirstFrom}
-use Rattle.scan.specs.Cut.{is, cutFrom}
+use Rattle.scan.specs.Lists.{part}
+use Rattle.scan.specs.Found.{FirstFrom, cutFrom}
+use Rattle.scan.specs.Cut.{is}
 use Rattle.scan.proofs.Cuts.{cut-start, cut-turn, cut-end}
 use Rattle.digits.specs.declared.Read.{Read}
 use Rattle.digits.specs.declared.Read.the-variants.{Value, Nothing}

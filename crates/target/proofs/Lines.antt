@@ -5,16 +5,17 @@ use mathlib.Core.List.{List, [], _∷_}
 use Prim.Native.Nat.{ℕ, _+_, _≤_, _<_, max}
 use native.Mathlib.Omega.{arith}
 use lib.Dec.{eqb}
-use lib.ListN.{length, getD}
-use borrow.Author.Tests.{eqb-true, eqb-false}
-use Rattle.scan.specs.Lists.{first, part, FirstFrom}
-use Rattle.scan.specs.Cut.{is, cut, cutFrom}
+use lib.ListN.{length, getD, drop}
+use borrow.Author.Tests.{eqb-true, eqb-false, ne-eqb}
+use Rattle.scan.specs.Lists.{all, first, part}
+use Rattle.scan.specs.Found.{FirstFrom, cutFrom}
+use Rattle.scan.specs.Cut.{is, cut}
 use Rattle.scan.specs.Trim.{isEmpty}
 use Rattle.scan.proofs.Bools.{never}
 use Rattle.scan.proofs.Parts.{part-empty, some-part}
 use Rattle.scan.proofs.Cuts.{cut-start, cut-turn, cut-end}
-use Rattle.target.specs.Line.{areThree, isThree, PartsAre}
-use Rattle.target.specs.Steps.{noParts}
+use Rattle.target.specs.Line.{isThree}
+use Rattle.target.specs.Steps.{PartsAre, noParts}
 use Rattle.target.specs.declared.Parts.{Parts}
 
 -- a part is empty where it ends at its start
@@ -25,10 +26,17 @@ empty-part a e s h k = go (eqb e a) refl
     go true q = let z : e ≡ a = eqb-true e a q in ap isEmpty (part-empty a e s (omega arith))
     go false q = let z : e ≡ a → ⊥ = eqb-false e a q in some-part s a e (omega arith) k
 
-nor : (p q r : Bool) → (not p && (not q && not r)) ≡ not (p || q || r)
+abbrev areThree : List (List ℕ) → Bool
+areThree ls = eqb (length ls) 3 && all (λ p. not (isEmpty p)) ls
+
+nor : (p q r : Bool) → (not p && (not q && (not r && true))) ≡ not (p || q || r)
 nor true q r = refl
 nor false true r = refl
-nor false false r = refl
+nor false false true = refl
+nor false false false = refl
+
+four : (a b c d : List ℕ) (ls : List (List ℕ)) → areThree (a ∷ b ∷ c ∷ d ∷ ls) ≡ false
+four a b c d ls = rw (ne-eqb (length (a ∷ b ∷ c ∷ d ∷ ls)) 3 (λ q. omega arith))
 
 other : {s : List ℕ} {r : Parts} → r ≡ noParts → isThree s ≡ false → PartsAre s r
 other {s} {r} e n =
@@ -60,7 +68,9 @@ module _ {s : List ℕ} {i : ℕ} (f : FirstFrom (is 32) s 0 i) where
       three = two ∙ ap (λ ls. part 0 i s ∷ part (i + 1) j s ∷ ls) (cut-turn 32 (j + 1) s (omega arith) (l .is))
 
       pub more-parts : {r : Parts} → r ≡ noParts → m < length s → PartsAre s r
-      more-parts e n = other e (ap areThree three ∙ rw (cut-turn 32 (m + 1) s (omega arith) refl))
+      more-parts e n =
+          let d : ℕ = m + 1 + first (is 32) (drop (m + 1) s) in
+          other e (ap areThree three ∙ rw (cut-turn 32 (m + 1) s (omega arith) refl) (four (part 0 i s) (part (i + 1) j s) (part (j + 1) m s) (part (m + 1) d s) (cutFrom 32 (d + 1) s)))
 
       module _ (n : length s ≤ m) where
         just : cut 32 s ≡ part 0 i s ∷ part (i + 1) j s ∷ part (j + 1) (length s) s ∷ []

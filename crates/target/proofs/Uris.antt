@@ -10,21 +10,22 @@ use lib.Dec.{ltb}
 use lib.ListN.{length, drop}
 use borrow.Author.Tests.{not-true, not-false, lt-ltb, le-ltb, ltb-true}
 use Rattle.scan.specs.Text.{text}
-use Rattle.scan.specs.Lists.{all, part, FirstOf, Holds}
+use Rattle.scan.specs.Lists.{all, part}
+use Rattle.scan.specs.Found.{FirstOf, Holds}
 use Rattle.scan.specs.Classes.{isName}
 use Rattle.scan.specs.Compare.{seen}
 use Rattle.scan.specs.Cut.{is}
 use Rattle.scan.specs.declared.Case.the-variants.{Counts}
 use Rattle.scan.proofs.Bools.{never, by-cases}
-use Rattle.scan.proofs.Parts.{part-rest, holds-inside}
+use Rattle.scan.proofs.Parts.{part-rest, holds-inside, named-by}
 use Rattle.scan.proofs.Loops.{first-within}
 use Rattle.scan.proofs.Compares.{alike-long}
 use Rattle.digits.specs.Reading.{isValue, atLeast, readNumber}
 use Rattle.digits.specs.declared.Zeros.the-variants.{Refused}
 use Rattle.digits.specs.declared.Read.{Read}
 use Rattle.digits.specs.declared.Read.the-variants.{Value, Nothing}
-use Rattle.target.specs.Uri.{question, startsWith, restOf, slash, colon, isHost, isPort, streamIn, hostOf, isUri, UriIs}
-use Rattle.target.specs.Steps.{noUri, isPortNumber, hostEnd}
+use Rattle.target.specs.Uri.{startsWith, restOf, isPort, streamIn, hostOf, isUri}
+use Rattle.target.specs.Steps.{question, slash, colon, isHost, UriIs, noUri, isPortNumber, hostEnd}
 use Rattle.target.specs.declared.Uri.{Uri}
 
 -- A TEXT THAT STARTS WITH ANOTHER is no shorter
@@ -45,7 +46,7 @@ or-none (suc k) = rw (lt-ltb 0 (suc k) (omega arith))
 
 module _ {a : List ℕ} {k : ℕ} (f : FirstOf (is 58) a k) {t : Bool} (e : t ≡ all isName (part 0 k a)) where
   end-by : hostEnd a ≡ cond ((ltb 0 k && t) && cond (ltb k (length a)) (isPortNumber (drop (k + 1) a)) true) k 0
-  end-by = rw (e, f .is)
+  end-by = rw (e, named-by 58 a f, f .is)
 
   pub host-not : not t ≡ true → 0 ≡ hostEnd a
   host-not n = sym (end-by ∙ rw (not-true t n, and-false (ltb 0 k)))
@@ -76,8 +77,13 @@ host-is a {h} e n = go (isHost a) (isPort a) e
     go false y q = absurd (n q)
 
 host-none : (a : List ℕ) {h : ℕ} → h ≡ hostEnd a → h ≡ 0 → isHost a && isPort a ≡ false
-host-none a {h} e z = go (ltb 0 (colon a)) (all isName (part 0 (colon a) a)) (isPort a) refl (sym e ∙ z)
+host-none a {h} e z =
+    ap (λ t. t && isPort a) named
+    ∙ go (ltb 0 (colon a)) (all isName (part 0 (colon a) a)) (isPort a) refl (ap (λ t. cond (t && isPort a) (colon a) 0) (sym named) ∙ sym e ∙ z)
   where
+    named : isHost a ≡ ltb 0 (colon a) && all isName (part 0 (colon a) a)
+    named = named-by 58 a (record { is = refl; within = first-within (is 58) a })
+
     go : (w x y : Bool) → ltb 0 (colon a) ≡ w → cond ((w && x) && y) (colon a) 0 ≡ 0 → (w && x) && y ≡ false
     go true true true l q = let m : 0 < colon a = ltb-true 0 (colon a) l in absurd (omega arith)
     go true true false l q = refl

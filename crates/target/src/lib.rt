@@ -2,9 +2,8 @@
 // answer for all bytes. A request line's bytes are looked at once each; a URI's at most four times each (those of its host: for `?`, for
 // `/`, for `:` and by their class), and those of its query never. No byte is copied.
 ghost use mathlib.Core.Path.{_≡_};
-ghost use Rattle.target.specs.Line.{PartsAre};
-ghost use Rattle.target.specs.Uri.{startsWith, streamIn, UriIs};
-ghost use Rattle.target.specs.Steps.{noParts, noUri, isPortNumber, hostEnd};
+ghost use Rattle.target.specs.Steps.{PartsAre, noParts, noUri, isPortNumber, hostEnd, UriIs};
+ghost use Rattle.target.specs.Uri.{startsWith, streamIn};
 use digits::Read;
 use digits::Zeros;
 use scan::Case;

@@ -7,7 +7,8 @@ use native.Mathlib.Omega.{arith}
 use lib.Dec.{eqb, ltb}
 use lib.ListN.{length, drop}
 use borrow.Author.Tests.{lt-ltb, le-ltb, eq-eqb, ne-eqb}
-use Rattle.scan.specs.Lists.{part, FirstOf}
+use Rattle.scan.specs.Lists.{first, part}
+use Rattle.scan.specs.Found.{FirstOf}
 use Rattle.scan.specs.Cut.{is}
 use Rattle.scan.proofs.Bools.{cond-keeps}
 use Rattle.scan.proofs.Parts.{part-rest}
@@ -16,7 +17,11 @@ use Rattle.digits.specs.declared.Read.{Read}
 use Rattle.digits.specs.declared.Read.the-variants.{Value, Nothing}
 use Rattle.digits.specs.declared.Zeros.the-variants.{Allowed}
 use Rattle.digits.proofs.Limits.{Is-read, number-most}
-use Rattle.tuning.specs.Values.{dot, megahertz, tenfold, fraction, hundredths, inBand, frequencyFrom}
+use Rattle.tuning.specs.Values.{megahertz, tenfold, fraction, hundredths, frequencyFrom}
+use Rattle.tuning.specs.Found.{inBand}
+
+abbrev dot : List ℕ → ℕ
+dot xs = first (is 46) xs
 
 -- what was read is at most n
 abbrev AtMost : ℕ → Read → Type 0

@@ -6,8 +6,9 @@ use mathlib.Core.List.{List}
 use Prim.Native.Nat.{ℕ, _+_, _≤_, _<_, max}
 use native.Mathlib.Omega.{arith}
 use lib.ListN.{length}
-use Rattle.scan.specs.Lists.{all, part, FirstFrom}
-use Rattle.scan.specs.Cut.{is, cut, cutFrom}
+use Rattle.scan.specs.Lists.{all, part}
+use Rattle.scan.specs.Found.{FirstFrom, cutFrom}
+use Rattle.scan.specs.Cut.{is, cut}
 use Rattle.scan.proofs.Cuts.{cut-start, cut-turn, cut-end}
 
 -- every piece before place p passes

@@ -8,10 +8,6 @@ use Rattle.scan.specs.declared.Case.the-variants.{Counts}
 abbrev pub names : List ℕ
 names = text "src fe freq pol msys mtype plts ro sr fec pids addpids delpids"
 
--- how many there are: the place of a name that is none of them
-abbrev pub attributes : ℕ
-attributes = 13
-
--- the attribute of a name; its case counts
+-- the attribute of a name, whose case counts; 13 for a name that is none of them
 unfoldable pub attributeOf : List ℕ → ℕ
 attributeOf name = placeAmong Counts names name

@@ -1,3 +1,4 @@
 pub mod Attributes
 pub mod Values
+pub mod Found
 pub mod Samples

@@ -6,7 +6,7 @@ use Rattle.scan.specs.Words.{placeAmong}
 use Rattle.digits.specs.Reading.{readNumber}
 use Rattle.digits.specs.declared.Read.{Read}
 use Rattle.digits.specs.declared.Read.the-variants.{Value, Nothing}
-use Rattle.tuning.specs.Attributes.{attributes, attributeOf}
+use Rattle.tuning.specs.Attributes.{attributeOf}
 use Rattle.tuning.specs.Values.{frequency, arePids, valueOf}
 
 -- the code of an attribute's value, both as they are written, on a box with two frontends
@@ -17,9 +17,9 @@ code name value = valueOf 2 (attributeOf (text name)) (text value)
 pub names
     : (attributeOf (text "src") ≡ 0)
     × (attributeOf (text "delpids") ≡ 12)
-    × (attributeOf (text "Freq") ≡ attributes)
-    × (attributeOf (text "freq ") ≡ attributes)
-    × (attributeOf (text "") ≡ attributes)
+    × (attributeOf (text "Freq") ≡ 13)
+    × (attributeOf (text "freq ") ≡ 13)
+    × (attributeOf (text "") ≡ 13)
 unfolding attributeOf placeAmong
 names = (refl, refl, refl, refl, refl)
 

@@ -1,18 +1,19 @@
 -- Document 01's table of values: what a stream keeps of an attribute's text, as a code that is never 0. Assumes nothing.
 use Prim.Native.Nat.{ℕ, _+_, _*_}
-use mathlib.Core.Bool.{Bool, true, false, cond, _&&_}
+use mathlib.Core.Bool.{Bool, cond}
 use mathlib.Core.List.{List}
-use lib.Dec.{leb, ltb, eqb}
-use lib.ListN.{length, drop}
+use lib.Dec.{ltb, eqb}
+use lib.ListN.{length}
 use Rattle.scan.specs.Text.{text}
-use Rattle.scan.specs.Lists.{all, first, part}
-use Rattle.scan.specs.Cut.{is, cut}
+use Rattle.scan.specs.Lists.{all, first, _gives_or_}
+use Rattle.scan.specs.Cut.{is, cut, before, after, has}
 use Rattle.scan.specs.Words.{placeAmong}
 use Rattle.scan.specs.declared.Case.the-variants.{Counts}
 use Rattle.digits.specs.Reading.{readNumber, atLeast, isValue}
 use Rattle.digits.specs.declared.Read.{Read}
 use Rattle.digits.specs.declared.Read.the-variants.{Value, Nothing}
 use Rattle.digits.specs.declared.Zeros.the-variants.{Allowed}
+use Rattle.scan.specs.Classes.{isBetween}
 
 -- "Plain numbers are 1 to 5 digits, leading zeros allowed."
 abbrev pub plain : ℕ → ℕ → List ℕ → Read
@@ -23,11 +24,8 @@ abbrev pub word : List ℕ → List ℕ → Read
 word words xs = cond (ltb (placeAmong Counts words xs) (length (cut 32 words))) (Value (placeAmong Counts words xs + 1)) Nothing
 
 -- "five digits of MHz": what stands before a dot
-abbrev pub dot : List ℕ → ℕ
-dot xs = first (is 46) xs
-
 abbrev pub megahertz : List ℕ → Read
-megahertz xs = cond (eqb (dot xs) 5) (readNumber Allowed 5 99999 (part 0 (dot xs) xs)) Nothing
+megahertz xs = cond (eqb (first (is 46) xs) 5) (readNumber Allowed 5 99999 (before 46 xs)) Nothing
 
 -- ten times what was read
 abbrev pub tenfold : Read → Read
@@ -40,14 +38,11 @@ fraction xs = cond (eqb (length xs) 1) (tenfold (readNumber Allowed 1 9 xs)) (co
 
 -- "optionally a dot and" such digits: none without a dot
 abbrev pub hundredths : List ℕ → Read
-hundredths xs = cond (ltb (dot xs) (length xs)) (fraction (drop (dot xs + 1) xs)) (Value 0)
+hundredths xs = cond (has 46 xs) (fraction (after 46 xs)) (Value 0)
 
 -- "10700 to 12750, kept in hundredths"
-abbrev pub inBand : ℕ → Read
-inBand v = cond (leb 1070000 v && leb v 1275000) (Value v) Nothing
-
 abbrev pub frequencyFrom : Read → Read → Read
-frequencyFrom (Value m) (Value h) = inBand (m * 100 + h)
+frequencyFrom (Value m) (Value h) = cond (isBetween 1070000 1275000 (m * 100 + h)) (Value (m * 100 + h)) Nothing
 frequencyFrom (Value m) Nothing = Nothing
 frequencyFrom Nothing h = Nothing
 
@@ -55,11 +50,8 @@ unfoldable pub frequency : List ℕ → Read
 frequency xs = frequencyFrom (megahertz xs) (hundredths xs)
 
 -- "numbers 0 to 8191 joined by commas": any number of them
-abbrev pub isPid : List ℕ → Bool
-isPid xs = isValue (readNumber Allowed 5 8191 xs)
-
 unfoldable pub arePids : List ℕ → Bool
-arePids xs = all isPid (cut 44 xs)
+arePids xs = all (λ p. isValue (readNumber Allowed 5 8191 p)) (cut 44 xs)
 
 -- a list of PIDs, as it is obeyed later
 abbrev pub pidList : List ℕ → Read
@@ -70,26 +62,20 @@ abbrev pub wordOrPids : Read → List ℕ → Read
 wordOrPids (Value v) xs = Value v
 wordOrPids Nothing xs = pidList xs
 
--- the first of some tests that holds says which
-infixr 50 _is_or_
-abbrev pub _is_or_ : Bool → Read → Read → Read
-_is_or_ true r q = r
-_is_or_ false r q = q
-
 -- the code of an attribute's value, on a box with so many frontends; nothing where the value is outside the table
 unfoldable pub valueOf : ℕ → ℕ → List ℕ → Read
 valueOf frontends attribute xs =
-    eqb attribute 0 is plain 1 4 xs or
-    eqb attribute 1 is plain 1 frontends xs or
-    eqb attribute 2 is frequency xs or
-    eqb attribute 3 is word (text "h v l r") xs or
-    eqb attribute 4 is word (text "dvbs dvbs2") xs or
-    eqb attribute 5 is word (text "qpsk 8psk") xs or
-    eqb attribute 6 is word (text "on off") xs or
-    eqb attribute 7 is word (text "0.35 0.25 0.20") xs or
-    eqb attribute 8 is plain 1000 45000 xs or
-    eqb attribute 9 is word (text "12 23 34 56 78 89 35 45 910") xs or
-    eqb attribute 10 is wordOrPids (word (text "all none") xs) xs or
-    eqb attribute 11 is pidList xs or
-    eqb attribute 12 is pidList xs or
+    eqb attribute 0 gives plain 1 4 xs or
+    eqb attribute 1 gives plain 1 frontends xs or
+    eqb attribute 2 gives frequency xs or
+    eqb attribute 3 gives word (text "h v l r") xs or
+    eqb attribute 4 gives word (text "dvbs dvbs2") xs or
+    eqb attribute 5 gives word (text "qpsk 8psk") xs or
+    eqb attribute 6 gives word (text "on off") xs or
+    eqb attribute 7 gives word (text "0.35 0.25 0.20") xs or
+    eqb attribute 8 gives plain 1000 45000 xs or
+    eqb attribute 9 gives word (text "12 23 34 56 78 89 35 45 910") xs or
+    eqb attribute 10 gives wordOrPids (word (text "all none") xs) xs or
+    eqb attribute 11 gives pidList xs or
+    eqb attribute 12 gives pidList xs or
     Nothing

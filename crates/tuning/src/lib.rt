@@ -4,12 +4,13 @@
 ghost use mathlib.Core.Path.{_≡_};
 ghost use Prim.Native.Nat.{_<_};
 ghost use lib.ListN.{length};
-ghost use Rattle.scan.specs.Lists.{FirstOf};
+ghost use Rattle.scan.specs.Found.{FirstOf};
 ghost use Rattle.scan.specs.Cut.{is};
 ghost use Rattle.scan.specs.Text.{text};
 ghost use Rattle.digits.specs.Reading.{readNumber};
 ghost use Rattle.tuning.specs.Attributes.{attributeOf};
-ghost use Rattle.tuning.specs.Values.{plain, word, megahertz, tenfold, fraction, hundredths, inBand, frequency, isPid, arePids, pidList, wordOrPids, valueOf};
+ghost use Rattle.tuning.specs.Values.{plain, word, megahertz, tenfold, fraction, hundredths, frequency, arePids, pidList, wordOrPids, valueOf};
+ghost use Rattle.tuning.specs.Found.{inBand, isPid};
 use digits::Read;
 use digits::Zeros;
 use scan::Case;

@@ -16,8 +16,8 @@ use Rattle.scan.specs.Text.{text, _&_}
 use Rattle.scan.specs.Cut.{joined}
 use Rattle.digits.specs.Positional.{digitsIn, valueIn}
 use Rattle.digits.specs.Reading.{digitOf, areDigits, spelled, readIn, hasLeadingZero, readNumber, readHex8}
-use Rattle.writing.specs.Writing.{shown, numeral, widthIn, width, decimal, hex8, dotted}
-use Rattle.writing.specs.Wrote.{written, Wrote}
+use Rattle.writing.specs.Writing.{shown, numeral, widthIn, width, decimal, hex8, dotted, written}
+use Rattle.writing.specs.Wrote.{Wrote}
 use Rattle.digits.specs.declared.Zeros.{Zeros}
 use Rattle.digits.specs.declared.Zeros.the-variants.{Allowed, Refused}
 use Rattle.digits.specs.declared.Read.the-variants.{Value}

@@ -11,7 +11,8 @@ use Rattle.scan.specs.Lists.{part}
 use Rattle.scan.proofs.Bools.{by-cases}
 use Rattle.scan.proofs.Parts.{part-length}
 use Rattle.scan.proofs.Loops.{turn, end}
-use Rattle.writing.specs.Wrote.{written, Wrote}
+use Rattle.writing.specs.Wrote.{Wrote}
+use Rattle.writing.specs.Writing.{written}
 
 -- at a place past the end nothing is stored
 sets-past : (b : List ℕ) (at : ℕ) (t : List ℕ) → length b ≤ at → sets b at t ≡ b

@@ -1,10 +1,11 @@
--- Numbers as text. Assumes nothing.
-use Prim.Native.Nat.{ℕ, zero, suc, _+_, _/_}
+-- Numbers as text, and a text in a lent buffer. Assumes nothing.
+use Prim.Native.Nat.{ℕ, zero, suc, _+_, _/_, _-_}
 use mathlib.Core.Bool.{cond}
-use mathlib.Core.List.{List, map}
+use mathlib.Core.List.{List, map, _++_}
 use lib.Dec.{ltb}
 use Rattle.scan.specs.Cut.{joined}
 use Rattle.digits.specs.Positional.{digitsIn}
+use lib.ListN.{length, take, drop}
 
 -- the byte that shows a digit: 0 to 9, then A to F
 abbrev pub shown : ℕ → ℕ
@@ -34,3 +35,7 @@ hex8 v = numeral 16 8 v
 -- "dotted address": its four octets in decimal, the highest first, with dots between them
 unfoldable pub dotted : ℕ → List ℕ
 dotted a = joined 46 (map decimal (digitsIn 256 4 a))
+
+-- the buffer b with the text t from place `at` on, as far as b reaches; before the text and after it b is as it was
+unfoldable pub written : List ℕ → ℕ → List ℕ → List ℕ
+written b at t = take at b ++ (take (length b - at) t ++ drop (at + length t) b)

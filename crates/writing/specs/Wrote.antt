@@ -1,12 +1,9 @@
--- What it is to put a text into a lent buffer at a place. Assumes nothing.
-use Prim.Native.Nat.{ℕ, _+_, _-_, min}
+-- What the functions that put a text into a lent buffer promise the crates above. No call of the box reaches it. Assumes nothing.
+use Prim.Native.Nat.{ℕ, _+_, min}
 use mathlib.Core.Path.{_≡_}
-use mathlib.Core.List.{List, _++_}
-use lib.ListN.{length, take, drop}
-
--- the buffer b with the text t from place `at` on, as far as b reaches; before the text and after it b is as it was
-unfoldable pub written : List ℕ → ℕ → List ℕ → List ℕ
-written b at t = take at b ++ (take (length b - at) t ++ drop (at + length t) b)
+use mathlib.Core.List.{List}
+use lib.ListN.{length}
+use Rattle.writing.specs.Writing.{written}
 
 -- the place after the text; where the text does not fit, one past the buffer's length, at which nothing fits any more
 abbrev pub placeAfter : List ℕ → ℕ → List ℕ → ℕ

@@ -9,11 +9,12 @@ use Rattle.scan.specs.Text.{text}
 use Rattle.scan.specs.Lists.{first}
 use Rattle.scan.specs.Compare.{areAlike}
 use Rattle.scan.specs.Cut.{cut}
-use Rattle.scan.specs.Words.{isWord}
+use Rattle.scan.specs.Found.{isWord}
 use Rattle.scan.specs.declared.Case.the-variants.{Counts}
 use Rattle.scan.proofs.Places.{None, miss, none, place-alike, place-none}
 use Rattle.aim.specs.declared.Method.the-variants.{Other}
-use Rattle.reader.specs.Request.{methodAt, methodIn}
+use Rattle.reader.specs.Request.{methodIn}
+use Rattle.reader.specs.Heads.{methodAt}
 use Rattle.reader.proofs.method_in.Statement.{statement}
 use Rattle.reader.proofs.method_in.Tie as tie
 

@@ -2,7 +2,7 @@
 use Prim.Native.Nat.{_-_}
 use lib.ListN.{length}
 use borrow.Author.Needs.{needs}
-use Rattle.scan.specs.Classes.{inClass}
+use Rattle.scan.specs.Found.{inClass}
 use Rattle.scan.proofs.Loops.{Passing, passing-start, passing-more, passing-not, passing-end}
 use Rattle.scan.proofs.all_in.Statement.{statement}
 use Rattle.scan.proofs.all_in.Tie as tie

@@ -2,7 +2,7 @@
 use Prim.Native.Nat.{_-_}
 use lib.ListN.{length}
 use borrow.Author.Needs.{needs}
-use Rattle.scan.specs.Classes.{inClass}
+use Rattle.scan.specs.Found.{inClass}
 use Rattle.scan.proofs.Loops.{Seeking, seeking-start, seeking-hit, seeking-more, seeking-end}
 use Rattle.scan.proofs.first_among.Statement.{statement}
 use Rattle.scan.proofs.first_among.Tie as tie

@@ -3,7 +3,7 @@ use Prim.Native.Nat.{_+_, _-_}
 use native.Mathlib.Omega.{arith}
 use lib.ListN.{length}
 use borrow.Author.Needs.{needs}
-use Rattle.scan.specs.Classes.{inClass}
+use Rattle.scan.specs.Found.{inClass}
 use Rattle.scan.specs.declared.Class.the-variants.{Is}
 use Rattle.scan.proofs.Loops.{Seeking, seeking-at, seeking-start, seeking-hit, seeking-more, seeking-end}
 use Rattle.scan.proofs.first_is.Statement.{statement}

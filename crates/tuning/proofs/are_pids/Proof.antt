@@ -2,7 +2,8 @@
 use Prim.Native.Nat.{_+_, _-_}
 use lib.ListN.{length}
 use borrow.Author.Needs.{needs}
-use Rattle.tuning.specs.Values.{isPid, arePids}
+use Rattle.tuning.specs.Values.{arePids}
+use Rattle.tuning.specs.Found.{isPid}
 use Rattle.tuning.proofs.Pieces.{EachPiece, each-start, each-more, each-not, each-end}
 use Rattle.tuning.proofs.are_pids.Statement.{statement}
 use Rattle.tuning.proofs.are_pids.Tie as tie
