@@ -15,10 +15,8 @@ use Rattle.closings.specs.Did.{Did}
 use Rattle.closings.specs.Closing.{sweeping}
 use Rattle.satbox.specs.Calls.{ifDone, tickOutcome, collectOutcome, ticked, emptied, collected}
 use Rattle.satbox.specs.Requests.{requestOutcome, requested, replied}
-use Rattle.lives.specs.Calls.{lent, Call, request, tick, collect, order, isShort, isCall}
-use Rattle.lives.specs.Runs.{Life, live, run, Lives, after}
-use Rattle.lives.specs.Audit.{Agree}
-use Rattle.lives.specs.Moments.{empty, Leads, begun, quiet}
+use Rattle.lives.specs.Calls.{lent, Call, request, tick, collect, order, isShort, isCall, Life, live, run, Lives, after}
+use Rattle.lives.specs.Audit.{Agree, empty, Leads, begun, quiet}
 use Rattle.lives.proofs.Holding.{Good, born-good}
 use Rattle.lives.proofs.Running.{live-good}
 use Rattle.lives.proofs.Agreeing.{agree-emptied}

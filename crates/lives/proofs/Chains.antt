@@ -18,8 +18,7 @@ use Rattle.closings.specs.Closing.{closeOne, closeOn, cascade, free, closing, i
 use Rattle.closings.proofs.Closings.{closable, closeOne-fine}
 use Rattle.closings.proofs.Keeping.{Whole, whole-roomy, sweepAt-whole, clock-whole}
 use Rattle.closings.proofs.Runs.{upto-holds}
-use Rattle.lives.specs.Audit.{Agree}
-use Rattle.lives.specs.Moments.{clocked, restream, closes, Leads, begun, quiet, noted}
+use Rattle.lives.specs.Audit.{Agree, clocked, restream, closes, Leads, begun, quiet, noted}
 use Rattle.lives.proofs.Fates.{gone}
 use Rattle.lives.proofs.Agreeing.{Single, agree-closed, agree-freed, agree-clock}
 

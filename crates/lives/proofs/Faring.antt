@@ -1,17 +1,17 @@
 -- What becomes of one session in any calls: it stays at its place, and its last time with it unless an OPTIONS names it; or a record says that it closed.
 -- Assumes nothing.
 use mathlib.Core.Path.{_≡_, refl, sym, _∙_, ap, subst}
-use mathlib.Core.Bool.{Bool, true, false}
+use mathlib.Core.Bool.{Bool, true}
 use mathlib.Core.List.{List, [], _∷_, _++_}
 use mathlib.Core.Logic.{_⊎_, inl, inr}
 use Prim.Native.Nat.{ℕ, suc, _+_, _-_, _≤_, _<_, max}
 use native.Mathlib.Decide.{decLt}
 use native.Mathlib.Omega.{arith}
-use lib.Dec.{eqb, ltb}
+use lib.Dec.{ltb}
 use lib.ListN.{length, getD, List·getD-eq-default}
 use borrow.Author.Tests.{eq-eqb, ne-eqb, eqb-true, ltb-true, lt-ltb, le-leb}
 use Rattle.scan.specs.Lists.{all}
-use Rattle.scan.proofs.Bools.{never, and-both, both, or-neither, by-cases, Case, is, isnt, case, Same, same, other, sames}
+use Rattle.scan.proofs.Bools.{never, and-both, both, by-cases, Case, is, isnt, case, Same, same, other, sames}
 use Rattle.aim.specs.declared.Method.{Method}
 use Rattle.aim.specs.declared.Method.the-variants.{Options, Setup, Play, Teardown, Other}
 use Rattle.lines.specs.Lines.{headerLines}
@@ -43,8 +43,7 @@ use Rattle.closings.proofs.Keeping.{Whole, clock-whole}
 use Rattle.satbox.proofs.Kept.{sweeping-whole}
 use Rattle.promises.proofs.Requests.{answered-still}
 use Rattle.promises.proofs.Methods.{Changes, options-refreshes, options-alone, other-alone, setup-replaces, play-marks, setup-joins, setup-opens}
-use Rattle.lives.specs.Calls.{lent, Call, request, tick, collect, order, comes, isCall}
-use Rattle.lives.specs.Runs.{Life, live, run, recordsOf}
+use Rattle.lives.specs.Calls.{lent, Call, request, tick, collect, order, isCall, Life, live, run, recordsOf}
 use Rattle.lives.specs.Closed.{isClosingOf, Fares, remains, closed, placeNamedBy, KeepsAlive, in-options}
 use Rattle.lives.proofs.Settings.{sweeping-set, requested-set}
 use Rattle.lives.proofs.Holding.{Good}
@@ -200,7 +199,7 @@ module _ (n i : ℕ) (some : n ≡ 0 → ⊥) (P : ℕ → Type 0) where
     emptied-fares (Refused r) f = f
 
     live-fares : {frontends size : ℕ} {x : Life} → Good frontends size x → c ≤ x .satbox .clock → (k : Call) → (KeepsAlive n k → (m : ℕ) → c ≤ m → P m)
-        → sessionAt (x .satbox) i .number ≡ n → P (sessionAt (x .satbox) i .last) → Fares n i P (live k x .satbox) (comes k (x .satbox) (x .journal) .records)
+        → sessionAt (x .satbox) i .number ≡ n → P (sessionAt (x .satbox) i .last) → Fares n i P (live k x .satbox) (live k x .records)
     unfolding live replied ticked collected
     live-fares {x = x} g now (request s clock address draw b l) kept a p =
         done-fares (requestOutcome (x .satbox) (lent l (x .journal)) b)

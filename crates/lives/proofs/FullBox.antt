@@ -19,9 +19,8 @@ use Rattle.satbox.specs.Requests.{requested, replied}
 use Rattle.closings.proofs.Keeping.{whole-formed}
 use Rattle.promises.proofs.Asks.{example, box, home, after as asked}
 use Rattle.promises.proofs.Edges.{meanings, rounds}
-use Rattle.lives.specs.Calls.{own, Call, request}
-use Rattle.lives.specs.Runs.{Life, live, run, Lives, after}
-use Rattle.lives.specs.Openings.{PassesElse}
+use Rattle.lives.specs.Calls.{own, Call, request, Life, live, run, Lives, after}
+use Rattle.lives.specs.Closed.{PassesElse}
 use Rattle.lives.proofs.Holding.{Good, born-good}
 use Rattle.lives.proofs.Running.{live-good}
 use Rattle.lives.proofs.Lives.{refused-for-room, passed-with-room}

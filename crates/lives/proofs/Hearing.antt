@@ -42,8 +42,7 @@ use Rattle.closings.proofs.Runs.{upto-holds}
 use Rattle.satbox.proofs.Kept.{sweeping-whole}
 use Rattle.serving.proofs.Passing.{named-closable}
 use Rattle.promises.proofs.Methods.{Changes, but, options-refreshes}
-use Rattle.lives.specs.Calls.{Lent, lent, Call, request, tick, collect, order, comes, isCall}
-use Rattle.lives.specs.Runs.{Life, live, run, recordsOf}
+use Rattle.lives.specs.Calls.{Lent, lent, Call, request, tick, collect, order, isCall, Life, live, run, recordsOf}
 use Rattle.lives.specs.Closed.{isTimeOut, Fares, placeNamedBy}
 use Rattle.lives.proofs.Requests.{Kin, Retuned, retuned-same, answered-holds}
 use Rattle.lives.proofs.Settings.{sweeping-set}
@@ -198,7 +197,7 @@ module _ (n c : ℕ) (some : n ≡ 0 → ⊥) where
   emptied-hears Done a = record { now = a .now; heard = a .heard; late = refl }
   emptied-hears (Refused r) a = a
 
-  live-hears : {frontends size : ℕ} {x : Life} → Good frontends size x → (k : Call) → c ≤ x .satbox .clock → Heard n c (x .satbox) → Hears n c (live k x .satbox) (comes k (x .satbox) (x .journal) .records)
+  live-hears : {frontends size : ℕ} {x : Life} → Good frontends size x → (k : Call) → c ≤ x .satbox .clock → Heard n c (x .satbox) → Hears n c (live k x .satbox) (live k x .records)
   unfolding live replied ticked collected
   live-hears {x = x} g (request s clock address draw b l) now h =
       done-hears (requestOutcome (x .satbox) (lent l (x .journal)) b) (requested-hears s clock address draw (x .satbox) (g .whole) now h) (record { now = now; heard = h; late = refl })
@@ -216,7 +215,7 @@ module _ (n c : ℕ) (some : n ≡ 0 → ⊥) where
       record {
         now = b .now;
         heard = b .heard;
-        late = all-both (isLate n c) (comes k (x .satbox) (x .journal) .records) (recordsOf ks (live k x)) (a .late) (b .late);
+        late = all-both (isLate n c) (live k x .records) (recordsOf ks (live k x)) (a .late) (b .late);
       }
 
 -- AN OPTIONS THAT NAMES A SESSION: it has been heard of at the clock, and no other session has its number
@@ -255,7 +254,7 @@ module _ {frontends size : ℕ} {x : Life} (g : Good frontends size x) (s : List
   abbrev c : Call
   c = request s clock address draw b l
 
-  module _ (done : comes c (x .satbox) (x .journal) .outcome ≡ Done) (options : methodOf s ≡ Options) (passed : isPassed (requested s clock address draw (x .satbox) .case) ≡ true)
+  module _ (done : live c x .outcome ≡ Done) (options : methodOf s ≡ Options) (passed : isPassed (requested s clock address draw (x .satbox) .case) ≡ true)
       (named : placeNamedBy s v < 32) where
     w : Whole v
     w = sweeping-whole clock (x .satbox) (g .whole)
@@ -268,8 +267,8 @@ module _ {frontends size : ℕ} {x : Life} (g : Good frontends size x) (s : List
     unfolding sightOf
     some = let a = askedOf (v .frontends) s in named-closable v w a (sightOf v a) refl (lt-ltb (placeNamedBy s v) 32 named) .some
 
-    after-is : comes c (x .satbox) (x .journal) .satbox ≡ answered s address draw v .did .satbox
-    unfolding replied requested
+    after-is : live c x .satbox ≡ answered s address draw v .did .satbox
+    unfolding live replied requested
     after-is = rw done
 
     -- by the clock used

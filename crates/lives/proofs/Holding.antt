@@ -24,8 +24,7 @@ use Rattle.satbox.proofs.Kept.{fresh-whole}
 use Rattle.serving.proofs.RecordLaws.{Counts-on}
 use Rattle.serving.proofs.Recorded.{Recorded}
 use Rattle.promises.proofs.Written.{Counted}
-use Rattle.lives.specs.Calls.{Lent, own, lent, ownAfter}
-use Rattle.lives.specs.Runs.{Life, after}
+use Rattle.lives.specs.Calls.{Lent, own, lent, ownAfter, Life, after}
 use Rattle.lives.proofs.Fitting.{all-both}
 use Rattle.lives.proofs.Journals.{take-written, counts-both}
 
@@ -74,6 +73,8 @@ pub record Works (t : SatBox) (d : Did) : Type 0 where
 abbrev pub worked : Lent → Outcome → Did → Life → Life
 worked l o d x =
     record {
+      outcome = o;
+      records = ifDone o (d .records) [];
       satbox = ifDone o (d .satbox) (x .satbox);
       journal = ownAfter l (x .journal) (ifDone o (written (lent l (x .journal)) (x .satbox .held) (bytesOf (d .records))) (lent l (x .journal)));
       history = x .history ++ ifDone o (d .records) [];
@@ -86,6 +87,8 @@ abbrev pub emptiedInto : Lent → Outcome → List ℕ → Life → Life
 emptiedInto l o b x =
     let held = x .satbox .held in
     record {
+      outcome = o;
+      records = [];
       satbox = ifDone o (emptied (x .satbox)) (x .satbox);
       journal = x .journal;
       history = x .history ++ [];
@@ -94,7 +97,7 @@ emptiedInto l o b x =
     }
 
 module _ {frontends size : ℕ} {x : Life} (g : Good frontends size x) where
-  pub same-good : Good frontends size (record { satbox = x .satbox; journal = x .journal; history = x .history ++ []; since = x .since ++ []; gathered = x .gathered ++ [] })
+  pub same-good : {o : Outcome} → Good frontends size (record { outcome = o; records = []; satbox = x .satbox; journal = x .journal; history = x .history ++ []; since = x .since ++ []; gathered = x .gathered ++ [] })
   same-good =
       record {
         whole = g .whole;

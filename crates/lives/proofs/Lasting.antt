@@ -36,9 +36,8 @@ use Rattle.satbox.specs.Requests.{requested, replied}
 use Rattle.closings.proofs.Keeping.{Whole, clock-whole}
 use Rattle.satbox.proofs.Kept.{sweeping-whole}
 use Rattle.promises.proofs.Requests.{answered-still}
-use Rattle.lives.specs.Calls.{Lent, Call, request, tick, collect, order, comes}
-use Rattle.lives.specs.Causes.{takes, saysClosed, unnumbered, sweepClosings, teardownClosings}
-use Rattle.lives.specs.Closed.{placeNamedBy, Sweeps, in-request, in-tick, Stays, TearsDown, in-teardown, Ends, expired, torn}
+use Rattle.lives.specs.Calls.{Lent, Call, request, tick, collect, order, Life, live}
+use Rattle.lives.specs.Closed.{takes, saysClosed, unnumbered, sweepClosings, teardownClosings, placeNamedBy, Sweeps, in-request, in-tick, Stays, TearsDown, in-teardown, Ends, expired, torn}
 use Rattle.lives.proofs.Requests.{Kin, Retuned, retuned-same, answered-holds}
 use Rattle.lives.proofs.Seating.{place-free}
 use Rattle.lives.proofs.Taking.{one-owner, closing-took}
@@ -136,98 +135,98 @@ fared s address draw t w = by (case (isPassed (answered s address draw t .case))
     by (isnt y) e = lasted (subst (Lasts t) (sym (answered-still s address draw t y)) (lasts-nothing t))
 
 -- WHAT ENDS A SESSION
-module _ (t : SatBox) (j : List ℕ) (w : Whole t) (i : ℕ) (some : isOpen (sessionAt t i) ≡ true) where
+module _ (x : Life) (w : Whole (x .satbox)) (i : ℕ) (some : isOpen (sessionAt (x .satbox) i) ≡ true) where
   abbrev owner : ℕ
-  owner = first (owns (sessionAt t i .stream)) (t .sessions)
+  owner = first (owns (sessionAt (x .satbox) i .stream)) (x .satbox .sessions)
 
-  owner-owns : owns (sessionAt t i .stream) (sessionAt t owner) ≡ true
+  owner-owns : owns (sessionAt (x .satbox) i .stream) (sessionAt (x .satbox) owner) ≡ true
   owner-owns =
-      let id = sessionAt t i .stream in
-      let live = seated-live (t .sessions) (pastStream ∷ t .streams) (w .formed .seats) i (opened (sessionAt t i) some) in
-      let one : count (owns id) (t .sessions) ≡ 1 = w .formed .seats .owners id live in
-      first-passes (owns id) (t .sessions) noSession (first-some (owns id) (t .sessions) (omega arith))
+      let id = sessionAt (x .satbox) i .stream in
+      let live = seated-live (x .satbox .sessions) (pastStream ∷ (x .satbox) .streams) (w .formed .seats) i (opened (sessionAt (x .satbox) i) some) in
+      let one : count (owns id) (x .satbox .sessions) ≡ 1 = w .formed .seats .owners id live in
+      first-passes (owns id) (x .satbox .sessions) noSession (first-some (owns id) (x .satbox .sessions) (omega arith))
 
-  owner-takes : takes (sessionAt t owner) (sessionAt t i) ≡ true
+  owner-takes : takes (sessionAt (x .satbox) owner) (sessionAt (x .satbox) i) ≡ true
   owner-takes =
-      let s = sessionAt t i in
-      let r = sessionAt t owner in
+      let s = sessionAt (x .satbox) i in
+      let r = sessionAt (x .satbox) owner in
       let q : r .stream ≡ s .stream = eqb-true _ _ (and-both (isOpen r) _ (and-both (isOn (s .stream) r) _ owner-owns .0) .1) in
       or-right (has (s .number) r) (subst (λ id. owns id r && isOn id s ≡ true) (sym q) (both owner-owns (both some (eq-eqb (s .stream) (s .stream) refl))))
 
   -- by a sweep
-  swept-ends : {clock : ℕ} {c : Call} → Sweeps clock c → Ends t i c ⊎ Stays t i (sweeping clock t .satbox)
+  swept-ends : {clock : ℕ} {c : Call} → Sweeps clock c → Ends (x .satbox) i c ⊎ Stays (x .satbox) i (sweeping clock (x .satbox) .satbox)
   swept-ends {clock} {c} sweeps = by (case _) (case _)
     where
-      by : Case (isExpired (max (t .clock) clock) (sessionAt t i)) → Case (isExpired (max (t .clock) clock) (sessionAt t owner)) → Ends t i c ⊎ Stays t i (sweeping clock t .satbox)
-      by (is y) o = inl (expired i sweeps y (rw (eq-eqb (sessionAt t i .number) (sessionAt t i .number) refl)))
+      by : Case (isExpired (max (x .satbox .clock) clock) (sessionAt (x .satbox) i)) → Case (isExpired (max (x .satbox .clock) clock) (sessionAt (x .satbox) owner)) → Ends (x .satbox) i c ⊎ Stays (x .satbox) i (sweeping clock (x .satbox) .satbox)
+      by (is y) o = inl (expired i sweeps y (rw (eq-eqb (sessionAt (x .satbox) i .number) (sessionAt (x .satbox) i .number) refl)))
       by (isnt y) (is z) = inl (expired owner sweeps z owner-takes)
       by (isnt y) (isnt z) =
-          inr (stays-in clock t w i some y (λ m own. subst (λ k. isExpired (max (t .clock) clock) (sessionAt t k) ≡ false) (one-owner t w (sessionAt t i .stream) owner m owner-owns own) z))
+          inr (stays-in clock (x .satbox) w i some y (λ m own. subst (λ k. isExpired (max (x .satbox .clock) clock) (sessionAt (x .satbox) k) ≡ false) (one-owner (x .satbox) w (sessionAt (x .satbox) i .stream) owner m owner-owns own) z))
 
   -- is there still, with its number
   abbrev There : SatBox → Type 0
-  There u = sessionAt u i .number ≡ sessionAt t i .number
+  There u = sessionAt u i .number ≡ sessionAt (x .satbox) i .number
 
-  module _ (s : List ℕ) (clock address draw : ℕ) (b : List ℕ) (l : Lent) (st : Stays t i (sweeping clock t .satbox)) where
+  module _ (s : List ℕ) (clock address draw : ℕ) (b : List ℕ) (l : Lent) (st : Stays (x .satbox) i (sweeping clock (x .satbox) .satbox)) where
     abbrev v : SatBox
-    v = sweeping clock t .satbox
+    v = sweeping clock (x .satbox) .satbox
 
     abbrev c : Call
     c = request s clock address draw b l
 
-    torn-ends : methodOf s ≡ Teardown → isPassed (answered s address draw v .case) ≡ true → Case (takes (sessionAt v (placeNamedBy s v)) (sessionAt v i)) → Ends t i c ⊎ There (answered s address draw v .did .satbox)
+    torn-ends : methodOf s ≡ Teardown → isPassed (answered s address draw v .case) ≡ true → Case (takes (sessionAt v (placeNamedBy s v)) (sessionAt v i)) → Ends (x .satbox) i c ⊎ There (answered s address draw v .did .satbox)
     unfolding requested
     torn-ends e y (is z) = inl (torn (in-teardown e y) z)
     torn-ends e y (isnt z) =
-        let wv = sweeping-whole clock t w in
+        let wv = sweeping-whole clock (x .satbox) w in
         let d = answered-torn s address draw v wv e y in
         let seat = closing-took 1 (placeNamedBy s v) v (d .closable) wv .seats i in
         inr (ap (λ (x : Did). sessionAt (x .satbox) i .number) (d .is) ∙ ap (λ (x : Session). x .number) (rw z at seat ∙ st .session))
 
-    answered-ends : Fared s address draw v → Ends t i c ⊎ There (answered s address draw v .did .satbox)
+    answered-ends : Fared s address draw v → Ends (x .satbox) i c ⊎ There (answered s address draw v .did .satbox)
     answered-ends (tore e y) = torn-ends e y (case _)
     answered-ends (lasted k) =
         inr (k .numbers i (rw (st .session) some) ∙ ap (λ (x : Session). x .number) (st .session))
 
-  done-ends : {c : Call} (o : Outcome) (u : SatBox) → Ends t i c ⊎ There u → (There (ifDone o u t) → ⊥) → Ends t i c
+  done-ends : {c : Call} (o : Outcome) (u : SatBox) → Ends (x .satbox) i c ⊎ There u → (There (ifDone o u (x .satbox)) → ⊥) → Ends (x .satbox) i c
   done-ends Done u (inl e) gone = e
   done-ends Done u (inr e) gone = absurd (gone e)
   done-ends (Refused r) u e gone = absurd (gone refl)
 
-  tick-ends : (clock : ℕ) {c : Call} → Ends t i c ⊎ Stays t i (sweeping clock t .satbox) → Ends t i c ⊎ There (sweeping clock t .satbox)
+  tick-ends : (clock : ℕ) {c : Call} → Ends (x .satbox) i c ⊎ Stays (x .satbox) i (sweeping clock (x .satbox) .satbox) → Ends (x .satbox) i c ⊎ There (sweeping clock (x .satbox) .satbox)
   tick-ends clock (inl e) = inl e
   tick-ends clock (inr e) = inr (ap (λ (x : Session). x .number) (e .session))
 
-  request-ends : (s : List ℕ) (clock address draw : ℕ) (b : List ℕ) (l : Lent) → Ends t i (request s clock address draw b l) ⊎ Stays t i (sweeping clock t .satbox)
-      → Ends t i (request s clock address draw b l) ⊎ There (requested s clock address draw t .did .satbox)
+  request-ends : (s : List ℕ) (clock address draw : ℕ) (b : List ℕ) (l : Lent) → Ends (x .satbox) i (request s clock address draw b l) ⊎ Stays (x .satbox) i (sweeping clock (x .satbox) .satbox)
+      → Ends (x .satbox) i (request s clock address draw b l) ⊎ There (requested s clock address draw (x .satbox) .did .satbox)
   unfolding requested
   request-ends s clock address draw b l (inl e) = inl e
   request-ends s clock address draw b l (inr e) =
-      answered-ends s clock address draw b l e (fared s address draw (sweeping clock t .satbox) (sweeping-whole clock t w))
+      answered-ends s clock address draw b l e (fared s address draw (sweeping clock (x .satbox) .satbox) (sweeping-whole clock (x .satbox) w))
 
   -- IN A CALL, refused or not
-  pub ends-in : (c : Call) → (There (comes c t j .satbox) → ⊥) → Ends t i c
-  unfolding replied ticked collected emptied
+  pub ends-in : (c : Call) → (There (live c x .satbox) → ⊥) → Ends (x .satbox) i c
+  unfolding live replied ticked collected emptied
   ends-in (request s clock address draw b l) gone =
-      done-ends (comes (request s clock address draw b l) t j .outcome) (requested s clock address draw t .did .satbox) (request-ends s clock address draw b l (swept-ends in-request)) gone
-  ends-in (tick clock l) gone = done-ends (comes (tick clock l) t j .outcome) (sweeping clock t .satbox) (tick-ends clock (swept-ends in-tick)) gone
-  ends-in (collect b l) gone = done-ends (comes (collect b l) t j .outcome) (emptied t) (inr refl) gone
+      done-ends (live (request s clock address draw b l) x .outcome) (requested s clock address draw (x .satbox) .did .satbox) (request-ends s clock address draw b l (swept-ends in-request)) gone
+  ends-in (tick clock l) gone = done-ends (live (tick clock l) x .outcome) (sweeping clock (x .satbox) .satbox) (tick-ends clock (swept-ends in-tick)) gone
+  ends-in (collect b l) gone = done-ends (live (collect b l) x .outcome) (emptied (x .satbox)) (inr refl) gone
   ends-in (order n) gone = absurd (gone refl)
 
 -- THE RECORDS of a TEARDOWN that is answered 200
-pub torn-text : (s : List ℕ) (clock address draw : ℕ) (b : List ℕ) (l : Lent) (t : SatBox) (j : List ℕ) → Whole t → comes (request s clock address draw b l) t j .outcome ≡ Done
-    → methodOf s ≡ Teardown → isPassed (requested s clock address draw t .case) ≡ true
-    → map unnumbered (comes (request s clock address draw b l) t j .records)
-    ≡ sweepClosings (atClock clock t) ++ teardownClosings (sweeping clock t .satbox) (placeNamedBy s (sweeping clock t .satbox))
-unfolding requested
-torn-text s clock address draw b l t j w done e y =
-    let v = sweeping clock t .satbox in
-    let wv = sweeping-whole clock t w in
+pub torn-text : (s : List ℕ) (clock address draw : ℕ) (b : List ℕ) (l : Lent) (x : Life) → Whole (x .satbox) → live (request s clock address draw b l) x .outcome ≡ Done
+    → methodOf s ≡ Teardown → isPassed (requested s clock address draw (x .satbox) .case) ≡ true
+    → map unnumbered (live (request s clock address draw b l) x .records)
+    ≡ sweepClosings (atClock clock (x .satbox)) ++ teardownClosings (sweeping clock (x .satbox) .satbox) (placeNamedBy s (sweeping clock (x .satbox) .satbox))
+unfolding live requested
+torn-text s clock address draw b l x w done e y =
+    let v = sweeping clock (x .satbox) .satbox in
+    let wv = sweeping-whole clock (x .satbox) w in
     let place = placeNamedBy s v in
     let d = answered-torn s address draw v wv e y in
-    ap (λ (o : Outcome). map unnumbered (ifDone o (requested s clock address draw t .did .records) [])) done
-    ∙ (map-append unnumbered (sweeping clock t .records) (answered s address draw v .did .records)
-    ∙ rw (sweeping-text clock t w, d .is, closing-took 1 place v (d .closable) wv .text))
+    ap (λ (o : Outcome). map unnumbered (ifDone o (requested s clock address draw (x .satbox) .did .records) [])) done
+    ∙ (map-append unnumbered (sweeping clock (x .satbox) .records) (answered s address draw v .did .records)
+    ∙ rw (sweeping-text clock (x .satbox) w, d .is, closing-took 1 place v (d .closable) wv .text))
 
 -- and of any other call that sweeps
 abbrev Opens : SatBox → ℕ → List Record → Type 0
@@ -239,9 +238,10 @@ unfolding requested
 fared-text s clock address draw t n (tore e y) = absurd (n e y)
 fared-text s clock address draw t n (lasted k) = (answered s address draw (sweeping clock t .satbox) .did .records, refl, k .opens)
 
-pub else-text : {clock : ℕ} {c : Call} → Sweeps clock c → (t : SatBox) (j : List ℕ) → Whole t → comes c t j .outcome ≡ Done → (TearsDown t c → ⊥) → Opens t clock (comes c t j .records)
-else-text (in-request {s = s} {clock = clock} {address = address} {draw = draw}) t j w done n =
-    subst (λ (o : Outcome). Opens t clock (ifDone o (requested s clock address draw t .did .records) [])) (sym done)
-    (fared-text s clock address draw t (λ e y. n (in-teardown e y)) (fared s address draw (sweeping clock t .satbox) (sweeping-whole clock t w)))
-else-text (in-tick {clock = clock}) t j w done n =
-    subst (λ (o : Outcome). Opens t clock (ifDone o (sweeping clock t .records) [])) (sym done) ([], sym (append-nil (sweeping clock t .records)), refl)
+pub else-text : {clock : ℕ} {c : Call} → Sweeps clock c → (x : Life) → Whole (x .satbox) → live c x .outcome ≡ Done → (TearsDown (x .satbox) c → ⊥) → Opens (x .satbox) clock (live c x .records)
+unfolding live
+else-text (in-request {s = s} {clock = clock} {address = address} {draw = draw}) x w done n =
+    subst (λ (o : Outcome). Opens (x .satbox) clock (ifDone o (requested s clock address draw (x .satbox) .did .records) [])) (sym done)
+    (fared-text s clock address draw (x .satbox) (λ e y. n (in-teardown e y)) (fared s address draw (sweeping clock (x .satbox) .satbox) (sweeping-whole clock (x .satbox) w)))
+else-text (in-tick {clock = clock}) x w done n =
+    subst (λ (o : Outcome). Opens (x .satbox) clock (ifDone o (sweeping clock (x .satbox) .records) [])) (sym done) ([], sym (append-nil (sweeping clock (x .satbox) .records)), refl)

@@ -1,5 +1,5 @@
 -- THE LIFE OF A BOX, in seven statements: for every F and C in range, every first journal of C bytes and every sequence of calls that a caller may make
--- (`Runs.Lives`, `Calls.isCall`), of the box, the journal and the history after them (`Runs.after`, the fold of the calls' meanings from a fresh box).
+-- (`Lives`, `isCall`), of the box, the journal and the history after them (`after`, the fold of the calls' meanings from a fresh box).
 -- Every call of a life is one that comes after others, so what holds after every sequence holds after every call. Assumes nothing.
 use mathlib.Core.Path.{_≡_, sym, _∙_, ap}
 use mathlib.Core.Bool.{true, false}
@@ -32,13 +32,9 @@ use Rattle.closings.specs.Closing.{isExpired, atClock, sweeping}
 use Rattle.satbox.specs.Requests.{requested, replied}
 use Rattle.closings.proofs.DoesLaws.{bytes-append}
 use Rattle.closings.proofs.Keeping.{whole-formed}
-use Rattle.lives.specs.Calls.{Lent, Call, request, order, refusedBy, comes, lacksJournal, isCall}
-use Rattle.lives.specs.Runs.{Life, live, run, recordsOf, Lives, after}
-use Rattle.lives.specs.Closed.{Closed, isClosingOf, isTimeOut, Fares, placeNamedBy, KeepsAlive, Sweeps, Stays, TearsDown, Ends}
-use Rattle.lives.specs.Causes.{saysClosed, saysOpened, unnumbered, sweepClosings, teardownClosings}
-use Rattle.lives.specs.Openings.{PassesElse}
-use Rattle.lives.specs.Audit.{letGo, isHeldBy, audited, holds}
-use Rattle.lives.specs.Moments.{Quiet, Notes, Leads, LetGo}
+use Rattle.lives.specs.Calls.{Lent, Call, request, order, refusedBy, lacksJournal, isCall, Life, live, run, recordsOf, Lives, after}
+use Rattle.lives.specs.Closed.{Closed, isClosingOf, isTimeOut, Fares, placeNamedBy, KeepsAlive, Sweeps, Stays, TearsDown, Ends, saysClosed, saysOpened, unnumbered, sweepClosings, teardownClosings, PassesElse}
+use Rattle.lives.specs.Audit.{letGo, isHeldBy, audited, holds, Quiet, Notes, Leads, LetGo}
 use Rattle.lives.proofs.Journals.{counts-at, counts-next}
 use Rattle.lives.proofs.Running.{live-good, after-good, swept-fed, swept-sized}
 use Rattle.lives.proofs.Refusals.{call-gated}
@@ -64,21 +60,21 @@ module _ (frontends size : ℕ) (j : List ℕ) (cs : List Call) where
     pub well-formed : wellFormed (x .satbox) ≡ true
     well-formed = whole-formed (x .satbox) (after-good h .whole)
 
-    -- so that no call is refused with 1, whatever it is called with (`comes`, `refusedBy`: document 01's numbers),
-    pub never-refused-by-1 : (c : Call) → refusedBy (comes c (x .satbox) (x .journal) .outcome) ≡ 1 → ⊥
-    never-refused-by-1 c = call-gated (x .satbox) well-formed (x .journal) c .0
+    -- so that no call is refused with 1, whatever it is called with (`live`, `refusedBy`: document 01's numbers),
+    pub never-refused-by-1 : (c : Call) → refusedBy (live c x .outcome) ≡ 1 → ⊥
+    never-refused-by-1 c = call-gated x well-formed c .0
 
     -- and with 2 exactly if it is lent a journal of another length (`lacksJournal`)
-    pub refused-by-2-for-length : (c : Call) → (refusedBy (comes c (x .satbox) (x .journal) .outcome) ≡ 2) ↔ (lacksJournal size c (x .journal) ≡ true)
+    pub refused-by-2-for-length : (c : Call) → (refusedBy (live c x .outcome) ≡ 2) ↔ (lacksJournal size c (x .journal) ≡ true)
     refused-by-2-for-length c =
-        rw (after-good h .sized) at (call-gated (x .satbox) well-formed (x .journal) c .1)
+        rw (after-good h .sized) at (call-gated x well-formed c .1)
 
     -- and the box's own journal never is
     pub journal-has-its-length : length (x .journal) ≡ size
     journal-has-its-length = after-good h .journal
 
     -- 2. THE JOURNAL'S FIRST BYTES HELD ARE EXACTLY THE RECORDS, in order, of the openings and closings since the last collection: `since`, which
-    -- the rules give for each call (`Comes.records`) and which is not read off the bytes held; their bytes are `bytesOf`,
+    -- the rules give for each call (`records`) and which is not read off the bytes held; their bytes are `bytesOf`,
     pub journal-holds-the-records : take (x .satbox .held) (x .journal) ≡ bytesOf (x .since)
     journal-holds-the-records = after-good h .text
 
@@ -95,10 +91,8 @@ module _ (frontends size : ℕ) (j : List ℕ) (cs : List Call) where
     pub sequence-to-come : x .satbox .sequence ≡ length (x .history) % 65536
     sequence-to-come = counts-next 0 (x .satbox .sequence) (x .history) (omega arith) (after-good h .sequence) ∙ omega arith
 
-    -- A call's own records stand behind those of the calls before it (`left`: those that are not collected by it)
-    pub call-writes-its-records : (c : Call) → isCall size c ≡ true
-        → take (comes c (x .satbox) (x .journal) .satbox .held) (comes c (x .satbox) (x .journal) .journal)
-        ≡ bytesOf (comes c (x .satbox) (x .journal) .left (x .since) ++ comes c (x .satbox) (x .journal) .records)
+    -- A call's own records stand behind those of the calls before it (`live`: `since` is those that are not collected by it, and then its own)
+    pub call-writes-its-records : (c : Call) → isCall size c ≡ true → take (live c x .satbox .held) (live c x .journal) ≡ bytesOf (live c x .since)
     unfolding live
     call-writes-its-records c e = live-good (after-good h) c e .text
 
@@ -107,22 +101,22 @@ module _ (frontends size : ℕ) (j : List ℕ) (cs : List Call) where
     room-for-every-closing = omega (arith, after-good h .whole .formed .fits .bound, after-good h .sized)
 
     -- 4. NO CLOSING IS EVER HELD BACK, in a request or a tick at any clock (`Sweeps`) that was not refused by number: of the sessions open before it
-    module _ (clock : ℕ) (c : Call) (sweeps : Sweeps clock c) (done : comes c (x .satbox) (x .journal) .outcome ≡ Done) where
+    module _ (clock : ℕ) (c : Call) (sweeps : Sweeps clock c) (done : live c x .outcome ≡ Done) where
       -- each that has expired at the clock used is closed by its sweep, and its record is there (`Closed`; the records of the call are `records`,
       -- which `since` then ends with),
       pub expired-is-closed : (i : ℕ) → isExpired (max (x .satbox .clock) clock) (sessionAt (x .satbox) i) ≡ true
-          → Closed (x .satbox) i (sweeping clock (x .satbox) .satbox) (comes c (x .satbox) (x .journal) .records)
-      expired-is-closed = expired-in clock c sweeps (x .satbox) (x .journal) done (after-good h .whole)
+          → Closed (x .satbox) i (sweeping clock (x .satbox) .satbox) (live c x .records)
+      expired-is-closed = expired-in clock c sweeps x done (after-good h .whole)
 
       -- and so is each whose stream loses its owner, at whatever place m
       pub ownerless-is-closed : (i m : ℕ) → isOpen (sessionAt (x .satbox) i) ≡ true
           → owns (sessionAt (x .satbox) i .stream) (sessionAt (x .satbox) m) ≡ true → isExpired (max (x .satbox .clock) clock) (sessionAt (x .satbox) m) ≡ true
-          → Closed (x .satbox) i (sweeping clock (x .satbox) .satbox) (comes c (x .satbox) (x .journal) .records)
-      ownerless-is-closed = lost-in clock c sweeps (x .satbox) (x .journal) done (after-good h .whole)
+          → Closed (x .satbox) i (sweeping clock (x .satbox) .satbox) (live c x .records)
+      ownerless-is-closed = lost-in clock c sweeps x done (after-good h .whole)
 
       -- and after the call nothing that is open has expired
-      pub none-expired-is-open : (i : ℕ) → isExpired (max (x .satbox .clock) clock) (sessionAt (comes c (x .satbox) (x .journal) .satbox) i) ≡ false
-      none-expired-is-open = young-after sweeps (x .satbox) (x .journal) done (after-good h .whole)
+      pub none-expired-is-open : (i : ℕ) → isExpired (max (x .satbox .clock) clock) (sessionAt (live c x .satbox) i) ≡ false
+      none-expired-is-open = young-after sweeps x done (after-good h .whole)
 
     -- AND NOTHING ELSE CLOSES: a sweep at any clock leaves whoever has not expired, and whose stream's owner has not, where it was, as it was, and its
     -- stream too (`Stays`)
@@ -137,7 +131,7 @@ module _ (frontends size : ℕ) (j : List ℕ) (cs : List Call) where
     sweep-causes clock = sweeping-text clock (x .satbox) (after-good h .whole)
 
     -- In a TEARDOWN that is answered 200, after the sweep, the session that it names is closed too (`placeNamedBy`)
-    module _ (s : List ℕ) (clock address draw : ℕ) (b : List ℕ) (l : Lent) (done : comes (request s clock address draw b l) (x .satbox) (x .journal) .outcome ≡ Done)
+    module _ (s : List ℕ) (clock address draw : ℕ) (b : List ℕ) (l : Lent) (done : live (request s clock address draw b l) x .outcome ≡ Done)
         (tears : methodOf s ≡ Teardown) (passed : isPassed (requested s clock address draw (x .satbox) .case) ≡ true) where
       abbrev v : SatBox
       v = sweeping clock (x .satbox) .satbox
@@ -148,31 +142,31 @@ module _ (frontends size : ℕ) (j : List ℕ) (cs : List Call) where
       abbrev c : Call
       c = request s clock address draw b l
 
-      pub torn-down-is-closed : Closed v place (comes c (x .satbox) (x .journal) .satbox) (comes c (x .satbox) (x .journal) .records)
-      unfolding replied
-      torn-down-is-closed = torn-in s clock address draw b l (x .satbox) (x .journal) done (after-good h .whole) tears passed
+      pub torn-down-is-closed : Closed v place (live c x .satbox) (live c x .records)
+      unfolding live replied
+      torn-down-is-closed = torn-in s clock address draw b l x done (after-good h .whole) tears passed
 
       -- and with an owner each that was on its stream
       pub left-by-owner-is-closed : (sessionAt v place .owner ≡ 0 → ⊥) → (i : ℕ) → isOn (sessionAt v place .stream) (sessionAt v i) ≡ true
-          → Closed v i (comes c (x .satbox) (x .journal) .satbox) (comes c (x .satbox) (x .journal) .records)
-      unfolding replied
-      left-by-owner-is-closed = left-in s clock address draw b l (x .satbox) (x .journal) done (after-good h .whole) tears passed
+          → Closed v i (live c x .satbox) (live c x .records)
+      unfolding live replied
+      left-by-owner-is-closed = left-in s clock address draw b l x done (after-good h .whole) tears passed
 
       -- and its records are those of its sweep, and then cause 1 of the one that it names and 3 of each that this takes along (`teardownClosings`)
-      pub teardown-causes : map unnumbered (comes c (x .satbox) (x .journal) .records)
+      pub teardown-causes : map unnumbered (live c x .records)
           ≡ sweepClosings (atClock clock (x .satbox)) ++ teardownClosings v place
-      teardown-causes = torn-text s clock address draw b l (x .satbox) (x .journal) (after-good h .whole) done tears passed
+      teardown-causes = torn-text s clock address draw b l x (after-good h .whole) done tears passed
 
     -- Of the sessions open before a call, whichever it is, refused or not, one that is not at its place with its number after it had expired, had lost
     -- its owner or was torn down (`Ends`),
     pub nothing-else-closes : (c : Call) (i : ℕ) → isOpen (sessionAt (x .satbox) i) ≡ true
-        → (sessionAt (comes c (x .satbox) (x .journal) .satbox) i .number ≡ sessionAt (x .satbox) i .number → ⊥) → Ends (x .satbox) i c
-    nothing-else-closes c i some = ends-in (x .satbox) (x .journal) (after-good h .whole) i some c
+        → (sessionAt (live c x .satbox) i .number ≡ sessionAt (x .satbox) i .number → ⊥) → Ends (x .satbox) i c
+    nothing-else-closes c i some = ends-in x (after-good h .whole) i some c
 
     -- and where it is no TEARDOWN answered 200 (`TearsDown`), what it writes after the records of its sweep is no closing
-    pub no-other-closing-is-written : (clock : ℕ) (c : Call) → Sweeps clock c → comes c (x .satbox) (x .journal) .outcome ≡ Done → (TearsDown (x .satbox) c → ⊥)
-        → (rest : List Record) × (comes c (x .satbox) (x .journal) .records ≡ sweeping clock (x .satbox) .records ++ rest) × (any saysClosed rest ≡ false)
-    no-other-closing-is-written clock c sweeps = else-text sweeps (x .satbox) (x .journal) (after-good h .whole)
+    pub no-other-closing-is-written : (clock : ℕ) (c : Call) → Sweeps clock c → live c x .outcome ≡ Done → (TearsDown (x .satbox) c → ⊥)
+        → (rest : List Record) × (live c x .records ≡ sweeping clock (x .satbox) .records ++ rest) × (any saysClosed rest ≡ false)
+    no-other-closing-is-written clock c sweeps = else-text sweeps x (after-good h .whole)
 
     -- WHO IS KEPT: a session that an OPTIONS answered 200 names, in the box after expired sessions are closed; after this call and any others
     module _ (s : List ℕ) (clock address draw : ℕ) (b : List ℕ) (l : Lent) (ds : List Call) where
@@ -188,7 +182,7 @@ module _ (frontends size : ℕ) (j : List ℕ) (cs : List Call) where
       abbrev kept : Session
       kept = sessionAt (sweeping clock (x .satbox) .satbox) seat
 
-      module _ (calls : all (isCall size) (options ∷ ds) ≡ true) (done : comes options (x .satbox) (x .journal) .outcome ≡ Done) (keep : methodOf s ≡ Options)
+      module _ (calls : all (isCall size) (options ∷ ds) ≡ true) (done : live options x .outcome ≡ Done) (keep : methodOf s ≡ Options)
           (passed : isPassed (requested s clock address draw (x .satbox) .case) ≡ true) (named : seat < 32) where
         -- is not closed for its age before the clock used plus 60: each record of those others that says so (`isTimeOut`) has that clock or a later one,
         pub kept-is-not-timed-out : (i : ℕ) (past : Record) → i < length (recordsOf ds y) → isTimeOut (kept .number) (getD (recordsOf ds y) i past) ≡ true

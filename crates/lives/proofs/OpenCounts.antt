@@ -19,8 +19,8 @@ use Rattle.closings.specs.Did.{Did, restreamed, reseated, noting}
 use Rattle.closings.specs.Closing.{closeOne, atClock}
 use Rattle.satbox.specs.Calls.{emptied}
 use Rattle.serving.specs.Serving.{replaced}
-use Rattle.lives.specs.Causes.{saysClosed, saysOpened}
-use Rattle.lives.specs.Moments.{Quiet, clocked, restream, retune, replace, empty, Notes, opensAsOwner, joins, closes, Leads, begun, quiet, noted}
+use Rattle.lives.specs.Closed.{saysClosed, saysOpened}
+use Rattle.lives.specs.Audit.{Quiet, clocked, restream, retune, replace, empty, Notes, opensAsOwner, joins, closes, Leads, begun, quiet, noted}
 
 count-append : (p : Record → Bool) (h k : List Record) → count p (h ++ k) ≡ count p h + count p k
 count-append p [] k = omega arith

@@ -25,8 +25,7 @@ use Rattle.satbox.specs.Calls.{ifDone, tickOutcome, ticked, collectOutcome, emp
 use Rattle.satbox.specs.Requests.{requestOutcome, requested, replied}
 use Rattle.closings.proofs.DoesLaws.{bytes-length}
 use Rattle.serving.proofs.RecordLaws.{Counts-on}
-use Rattle.lives.specs.Calls.{lent, Call, request, tick, collect, order, isShort, isCall}
-use Rattle.lives.specs.Runs.{Life, live, run, Lives, after}
+use Rattle.lives.specs.Calls.{lent, Call, request, tick, collect, order, isShort, isCall, Life, live, run, Lives, after}
 use Rattle.lives.proofs.Journals.{counts-at}
 use Rattle.lives.proofs.Fitting.{Short, isFit, Fits, all-both, sweeping-fits, requested-fits}
 use Rattle.lives.proofs.Holding.{Good, born-good}

@@ -1,7 +1,6 @@
 -- Which refusals a call on a well-formed box can get: never 1, and 2 exactly if its journal is of another length. Assumes nothing.
 use mathlib.Core.Path.{_≡_, refl}
 use mathlib.Core.Bool.{Bool, true, false, not, _&&_}
-use mathlib.Core.List.{List}
 use mathlib.Core.Logic.{_↔_}
 use Prim.Native.Nat.{ℕ, suc}
 use native.Mathlib.Omega.{arith}
@@ -23,7 +22,7 @@ use Rattle.orders.specs.Orders.{isFed, playsAsOwner, orderAt, orderFor, orderOf
 use Rattle.orders.specs.declared.Order.{Order}
 use Rattle.satbox.specs.Calls.{_else_andThen_, isJournal, ticked, collected}
 use Rattle.satbox.specs.Requests.{replied}
-use Rattle.lives.specs.Calls.{lent, Call, request, tick, collect, order, orderOutcome, refusedBy, comes, lacksJournal}
+use Rattle.lives.specs.Calls.{lent, Call, request, tick, collect, order, orderOutcome, refusedBy, lacksJournal, Life, live}
 
 -- what stands behind the tests of 1 and 2 refuses by neither
 abbrev Past : Outcome → Type 0
@@ -63,12 +62,12 @@ order-past t n f =
     (λ e. (λ y. omega arith, λ y. omega arith)))
 
 -- EVERY CALL
-module _ (t : SatBox) (f : wellFormed t ≡ true) (j : List ℕ) where
-  pub call-gated : (c : Call) → Gated (lacksJournal (t .size) c j) (comes c t j .outcome)
-  unfolding replied ticked collected
+module _ (x : Life) (f : wellFormed (x .satbox) ≡ true) where
+  pub call-gated : (c : Call) → Gated (lacksJournal (x .satbox .size) c (x .journal)) (live c x .outcome)
+  unfolding live replied ticked collected
   call-gated (request s clock address draw b l) =
-      gated (wellFormed t) (isJournal t (lent l j)) _ f (last-test (not (ltb (length b) 4096)) Answer (λ e. omega arith, λ e. omega arith))
-  call-gated (tick clock l) = gated (wellFormed t) (isJournal t (lent l j)) Done f past-done
+      gated (wellFormed (x .satbox)) (isJournal (x .satbox) (lent l (x .journal))) _ f (last-test (not (ltb (length b) 4096)) Answer (λ e. omega arith, λ e. omega arith))
+  call-gated (tick clock l) = gated (wellFormed (x .satbox)) (isJournal (x .satbox) (lent l (x .journal))) Done f past-done
   call-gated (collect b l) =
-      gated (wellFormed t) (isJournal t (lent l j)) _ f (last-test (not (ltb (length b) (t .held))) Buffer (λ e. omega arith, λ e. omega arith))
-  call-gated (order n) = ungated (orderOutcome (orderOf t n .outcome)) (order-past t n f)
+      gated (wellFormed (x .satbox)) (isJournal (x .satbox) (lent l (x .journal))) _ f (last-test (not (ltb (length b) (x .satbox .held))) Buffer (λ e. omega arith, λ e. omega arith))
+  call-gated (order n) = ungated (orderOutcome (orderOf (x .satbox) n .outcome)) (order-past (x .satbox) n f)

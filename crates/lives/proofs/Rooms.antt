@@ -25,7 +25,7 @@ use Rattle.serving.specs.Serving.{canSeat, changeCase, caseOf, Serving, served,
 use Rattle.serving.specs.declared.opening.Client.{Client}
 use Rattle.serving.proofs.Passing.{untested}
 use Rattle.satbox.proofs.RequestLaws.{grant-passes}
-use Rattle.lives.specs.Openings.{PassesElse}
+use Rattle.lives.specs.Closed.{PassesElse}
 
 setup-only : (m : Method) → isSetup m ≡ true → m ≡ Setup
 setup-only Options e = never e refl

@@ -23,8 +23,7 @@ use Rattle.serving.proofs.RecordLaws.{swept-numbered}
 use Rattle.serving.proofs.Recorded.{swept-recorded}
 use Rattle.promises.proofs.Reading.{request-whole, request-recorded}
 use Rattle.promises.proofs.Written.{Counted, requested-counted}
-use Rattle.lives.specs.Calls.{own, other, Call, request, tick, collect, order, isShort, isLent, isCall}
-use Rattle.lives.specs.Runs.{Life, live, run, Lives, after}
+use Rattle.lives.specs.Calls.{own, other, Call, request, tick, collect, order, isShort, isLent, isCall, Life, live, run, Lives, after}
 use Rattle.lives.proofs.Settings.{sweeping-set, requested-set}
 use Rattle.lives.proofs.Holding.{Good, born-good, Works, worked, emptiedInto, same-good, worked-good, collected-good}
 

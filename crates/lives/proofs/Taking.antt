@@ -23,7 +23,7 @@ use Rattle.closings.specs.Did.{Did, nothing, then, upto, reseated, noting}
 use Rattle.closings.specs.Does.{Closable}
 use Rattle.closings.specs.Closing.{closeOne, closeOn, cascade, free, closing}
 use Rattle.closings.proofs.Keeping.{Whole, owner-sessions, owner-streams}
-use Rattle.lives.specs.Causes.{takes, closingOf, unnumbered, inOrder, closingsAt}
+use Rattle.lives.specs.Closed.{takes, closingOf, unnumbered, inOrder, closingsAt}
 use Rattle.promises.proofs.Methods.{stream-other, getD-clear}
 use Rattle.lives.proofs.Fates.{off-stream}
 

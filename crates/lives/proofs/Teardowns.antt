@@ -22,8 +22,7 @@ use Rattle.closings.proofs.Keeping.{Whole}
 use Rattle.promises.proofs.Passing.{served-by, tears-closable}
 use Rattle.promises.proofs.Requests.{answered-by}
 use Rattle.promises.proofs.Records.{closed-is}
-use Rattle.lives.specs.Causes.{takes}
-use Rattle.lives.specs.Closed.{Closed, placeNamedBy}
+use Rattle.lives.specs.Closed.{takes, Closed, placeNamedBy}
 use Rattle.lives.proofs.Fates.{closing-fates}
 use Rattle.lives.proofs.Taking.{takes-self, takes-on, closing-took}
 use Rattle.lives.proofs.Sweeps.{freed-closed}

@@ -20,7 +20,7 @@ use Rattle.closings.specs.Closing.{closing, isExpired, sweepAt, swept}
 use Rattle.closings.proofs.Closings.{closable}
 use Rattle.closings.proofs.Keeping.{Whole, whole-roomy, sweepAt-whole}
 use Rattle.closings.proofs.Runs.{upto-keeps}
-use Rattle.lives.specs.Causes.{takes, visitOf, closingOf, unnumbered, inOrder, closingsAt, sweepClosings}
+use Rattle.lives.specs.Closed.{takes, visitOf, closingOf, unnumbered, inOrder, closingsAt, sweepClosings}
 use Rattle.lives.proofs.Fates.{upto-fates}
 use Rattle.lives.proofs.Taking.{within, first-least, order-same, takes-self, one-number, one-owner, Took, closing-took, Taken, self, along, taken, taken-open, taken-none}
 

@@ -19,7 +19,7 @@ use Rattle.serving.specs.declared.opening.Client.{Client}
 use Rattle.closings.proofs.Keeping.{Whole}
 use Rattle.satbox.proofs.Kept.{sweeping-whole}
 use Rattle.promises.proofs.Serving.{Alike}
-use Rattle.lives.specs.Moments.{restream, retune, replace, opensAsOwner, joins, begun, quiet, noted}
+use Rattle.lives.specs.Audit.{restream, retune, replace, opensAsOwner, joins, begun, quiet, noted}
 use Rattle.lives.proofs.Requests.{Retuned, as-it-was, merged, answered-holds}
 use Rattle.lives.proofs.Agreeing.{agree-fed, agree-replaced}
 use Rattle.lives.proofs.Seating.{place-free, agree-joined, nobody, agree-new, agree-opened}

@@ -26,8 +26,7 @@ use Rattle.satbox.specs.Requests.{requestOutcome, requested, replied}
 use Rattle.serving.specs.declared.opening.Client.{Client}
 use Rattle.closings.proofs.Keeping.{Whole, clock-whole}
 use Rattle.satbox.proofs.Kept.{sweeping-whole}
-use Rattle.lives.specs.Calls.{lent, Call, request, tick, collect, order, comes, isCall}
-use Rattle.lives.specs.Runs.{Life, live, run, Lives, after}
+use Rattle.lives.specs.Calls.{lent, Call, request, tick, collect, order, isCall, Life, live, run, Lives, after}
 use Rattle.lives.specs.Closed.{Sweeps, in-request, in-tick}
 use Rattle.lives.proofs.Requests.{Kin, Retuned, retuned-same, answered-holds}
 use Rattle.lives.proofs.Settings.{sweeping-set, requested-set}
@@ -102,12 +101,12 @@ requested-young s clock address draw t w =
     subst (λ n. Young n (answered s address draw u .did .satbox)) c
     (answered-young s address draw u (sweeping-whole clock t w) (subst (λ n. Young n u) (sym c) (sweeping-young clock t w)))
 
-pub young-after : {clock : ℕ} {c : Call} → Sweeps clock c → (t : SatBox) (j : List ℕ) → comes c t j .outcome ≡ Done → Whole t → Young (max (t .clock) clock) (comes c t j .satbox)
-unfolding replied ticked
-young-after (in-request {s = s} {clock = clock} {address = address} {draw = draw}) t j e w =
-    subst (λ (o : Outcome). Young (max (t .clock) clock) (ifDone o (requested s clock address draw t .did .satbox) t)) (sym e) (requested-young s clock address draw t w)
-young-after (in-tick {clock = clock}) t j e w =
-    subst (λ (o : Outcome). Young (max (t .clock) clock) (ifDone o (sweeping clock t .satbox) t)) (sym e) (sweeping-young clock t w)
+pub young-after : {clock : ℕ} {c : Call} → Sweeps clock c → (x : Life) → live c x .outcome ≡ Done → Whole (x .satbox) → Young (max (x .satbox .clock) clock) (live c x .satbox)
+unfolding live replied ticked
+young-after (in-request {s = s} {clock = clock} {address = address} {draw = draw}) x e w =
+    subst (λ (o : Outcome). Young (max (x .satbox .clock) clock) (ifDone o (requested s clock address draw (x .satbox) .did .satbox) (x .satbox))) (sym e) (requested-young s clock address draw (x .satbox) w)
+young-after (in-tick {clock = clock}) x e w =
+    subst (λ (o : Outcome). Young (max (x .satbox .clock) clock) (ifDone o (sweeping clock (x .satbox) .satbox) (x .satbox))) (sym e) (sweeping-young clock (x .satbox) w)
 
 -- A RUN of them: at the box's own clock
 done-young : (o : Outcome) (t u : SatBox) → Young (t .clock) t → Young (u .clock) u → Young (ifDone o u t .clock) (ifDone o u t)

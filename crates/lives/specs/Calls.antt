@@ -1,14 +1,17 @@
--- A call of the box with whatever its caller hands in, and what comes of it, read off the meanings of the calls alone. Assumes nothing.
+-- A box's life: calls with whatever their callers hand in, one after the other, from a fresh box. Assumes nothing.
 use Prim.Native.Nat.{ℕ}
+use mathlib.Core.Path.{_≡_}
 use mathlib.Core.Bool.{Bool, true, false, not, _&&_}
-use mathlib.Core.List.{List, []}
+use mathlib.Core.List.{List, [], _∷_, _++_, foldl}
 use lib.Dec.{eqb, ltb}
 use lib.ListN.{length, take}
+use Rattle.scan.specs.Lists.{all}
 use Rattle.journal.specs.declared.Record.{Record}
-use Rattle.table.specs.Made.{numberOf}
+use Rattle.table.specs.Made.{numberOf, fresh}
 use Rattle.table.specs.declared.SatBox.{SatBox}
 use Rattle.table.specs.declared.Outcome.{Outcome}
 use Rattle.table.specs.declared.Outcome.the-variants.{Done, Refused}
+use Rattle.table.specs.Formed.{areSizes}
 use Rattle.orders.specs.Orders.{orderOf}
 use Rattle.orders.specs.declared.Ordered.{Ordered}
 use Rattle.orders.specs.declared.Ordered.the-variants.{On, Off, Refused as Unordered}
@@ -49,35 +52,6 @@ abbrev pub refusedBy : Outcome → ℕ
 refusedBy Done = 0
 refusedBy (Refused r) = numberOf r
 
--- WHAT COMES OF A CALL: whether it was refused, and by which refusal; the box and its journal; the openings and closings in it, in their order, as the
--- rules give them, none where it was refused; the bytes that were collected: as many as the call returned, at the front of the collecting buffer; and
--- which of the records since the last collection still are so: none after a collection that was done
-pub record Comes : Type 0 where
-  pub outcome : Outcome
-  pub satbox : SatBox
-  pub journal : List ℕ
-  pub records : List Record
-  pub collected : List ℕ
-  pub left : List Record → List Record
-
--- of a call that collects nothing
-abbrev pub collectsNothing : Outcome → SatBox → List ℕ → List Record → Comes
-collectsNothing o t j rs = record { outcome = o; satbox = t; journal = j; records = rs; collected = []; left = λ since. since }
-
--- of any call of the box t whose journal is j
-abbrev pub comes : Call → SatBox → List ℕ → Comes
-comes (request s clock address draw b l) t j =
-    let r = replied s clock address draw t b (lent l j) in
-    collectsNothing (r .outcome) (r .satbox) (ownAfter l j (repliedJournal s clock address draw t b (lent l j)))
-    (ifDone (r .outcome) (requested s clock address draw t .did .records) [])
-comes (tick clock l) t j =
-    let r = ticked clock t (lent l j) in
-    collectsNothing (r .outcome) (r .satbox) (ownAfter l j (tickedJournal clock t (lent l j))) (ifDone (r .outcome) (sweeping clock t .records) [])
-comes (collect b l) t j =
-    let r = collected t (lent l j) b in
-    record { outcome = r .outcome; satbox = r .satbox; journal = j; records = []; collected = take (r .count) (collectedInto t (lent l j) b); left = λ since. ifDone (r .outcome) [] since }
-comes (order n) t j = collectsNothing (orderOutcome (orderOf t n .outcome)) t j []
-
 -- the journal that a call is lent has not length C; a frontend order is lent none
 abbrev pub lacksJournal : ℕ → Call → List ℕ → Bool
 lacksJournal size (request s clock address draw b l) j = not (eqb (length (lent l j)) size)
@@ -99,3 +73,54 @@ isCall size (request s clock address draw b l) = isShort clock && (isShort addre
 isCall size (tick clock l) = isShort clock && isLent size l
 isCall size (collect b l) = isLent size l
 isCall size (order n) = isShort n
+
+-- where a life has come to: of its last call, whether it was refused and by which refusal, and the openings and closings in it, in their order, as the
+-- rules give them: none where it was refused; the box and its journal; its history, which are the openings and closings of all its calls; those of them since
+-- the last collection; and all bytes that were collected, joined
+pub record Life : Type 0 where
+  pub outcome : Outcome
+  pub records : List Record
+  pub satbox : SatBox
+  pub journal : List ℕ
+  pub history : List Record
+  pub since : List Record
+  pub gathered : List ℕ
+
+-- after one call more, where `left` are those since the last collection that still are so, and `copied` the bytes that were collected
+abbrev pub onward : Life → Outcome → List Record → SatBox → List ℕ → List Record → List ℕ → Life
+onward x o rs t j left copied =
+    record { outcome = o; records = rs; satbox = t; journal = j; history = x .history ++ rs; since = left ++ rs; gathered = x .gathered ++ copied }
+
+-- ONE CALL; table and journal are those that the call before handed back. A collection copies as many bytes as it returns, to the front of its buffer
+unfoldable pub live : Call → Life → Life
+live (request s clock address draw b l) x =
+    let r = replied s clock address draw (x .satbox) b (lent l (x .journal)) in
+    onward x (r .outcome) (ifDone (r .outcome) (requested s clock address draw (x .satbox) .did .records) []) (r .satbox)
+    (ownAfter l (x .journal) (repliedJournal s clock address draw (x .satbox) b (lent l (x .journal)))) (x .since) []
+live (tick clock l) x =
+    let r = ticked clock (x .satbox) (lent l (x .journal)) in
+    onward x (r .outcome) (ifDone (r .outcome) (sweeping clock (x .satbox) .records) []) (r .satbox)
+    (ownAfter l (x .journal) (tickedJournal clock (x .satbox) (lent l (x .journal)))) (x .since) []
+live (collect b l) x =
+    let r = collected (x .satbox) (lent l (x .journal)) b in
+    onward x (r .outcome) [] (r .satbox) (x .journal) (ifDone (r .outcome) [] (x .since)) (take (r .count) (collectedInto (x .satbox) (lent l (x .journal)) b))
+live (order n) x = onward x (orderOutcome (orderOf (x .satbox) n .outcome)) [] (x .satbox) (x .journal) (x .since) []
+
+-- A RUN: any calls, one after the other
+abbrev pub run : List Call → Life → Life
+run cs x = foldl (λ y c. live c y) x cs
+
+-- the records that the calls of a run write, in their order
+abbrev pub recordsOf : List Call → Life → List Record
+recordsOf [] x = []
+recordsOf (c ∷ cs) x = live c x .records ++ recordsOf cs (live c x)
+
+-- a life of the calls cs: F and C are in range, the first journal has length C, and each call is one that a caller may make
+pub record Lives (frontends size : ℕ) (j : List ℕ) (cs : List Call) : Type 0 where
+  pub sizes : areSizes frontends size ≡ true
+  pub journal : length j ≡ size
+  pub calls : all (isCall size) cs ≡ true
+
+-- where it has come to from a fresh box with F frontends and journal size C; the journal's first bytes are whatever they are
+abbrev pub after : ℕ → ℕ → List ℕ → List Call → Life
+after frontends size j cs = run cs (record { outcome = Done; records = []; satbox = fresh frontends size; journal = j; history = []; since = []; gathered = [] })

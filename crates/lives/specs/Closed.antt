@@ -1,25 +1,71 @@
--- What it is for a session to be closed in a call, with its record; to stay, or to be kept alive; and what alone ends one. Assumes nothing.
-use Prim.Native.Nat.{ℕ, max}
+-- Statements 4 and 5: whom a sweep and a TEARDOWN close, who stays and is kept, and an opening that only the journal's room can refuse. Assumes nothing.
+use Prim.Native.Nat.{ℕ, zero, suc, max}
 use mathlib.Core.Path.{_≡_}
-use mathlib.Core.Bool.{Bool, true, _&&_}
-use mathlib.Core.List.{List}
+use mathlib.Core.Bool.{Bool, not, cond, _&&_, _||_, true, false}
+use mathlib.Core.List.{List, [], _∷_, _++_}
 use lib.Dec.{eqb}
+use Rattle.scan.specs.Lists.{first}
+use Rattle.journal.specs.declared.Record.{Record}
 use Rattle.lines.specs.Lines.{headerLines}
 use Rattle.lines.specs.Headers.{valuesOf}
 use Rattle.aim.specs.declared.Method.the-variants.{Options, Teardown}
 use Rattle.reader.specs.Fields.{sessionOf}
 use Rattle.reader.specs.Request.{methodOf}
-use Rattle.journal.specs.declared.Record.{Record}
-use Rattle.table.specs.Counts.{any}
-use Rattle.table.specs.Table.{noSession, sessionAt, streamOf}
+use Rattle.table.specs.Table.{has, sessionAt, isOn, owns, noSession, streamOf}
 use Rattle.table.specs.declared.Session.{Session}
 use Rattle.table.specs.declared.SatBox.{SatBox}
-use Rattle.steps.specs.Sights.{numberOf, placeNamed}
-use Rattle.lives.specs.Calls.{Lent, Call, request, tick}
+use Rattle.table.specs.Counts.{any}
+use Rattle.steps.specs.Sights.{numberOf, placeNamed, sightOf}
 use Rattle.steps.specs.Cases.{isPassed}
+use Rattle.steps.specs.Asked.{Asked, Lists}
+use Rattle.steps.specs.Steps.{tableCase}
+use Rattle.steps.specs.declared.cases.Case.the-variants.{Passed}
+use Rattle.closings.specs.Did.{recordOf}
 use Rattle.closings.specs.Closing.{isExpired, sweeping}
+use Rattle.serving.specs.Opening.{hasPlace, hasFrontend}
+use Rattle.serving.specs.Serving.{feedOf, merging, merges, isClash, isTooMany, opens}
 use Rattle.satbox.specs.Requests.{requested}
-use Rattle.lives.specs.Causes.{takes, saysClosed}
+use Rattle.lives.specs.Calls.{Lent, Call, request, tick}
+
+-- the session r, where it closes, takes the session s along: s is r, or is on the stream that r owns
+abbrev pub takes : Session → Session → Bool
+takes r s = has (s .number) r || (owns (r .stream) r && isOn (r .stream) s)
+
+-- the visit of a sweep at which a session closes, "in rising order": the first place whose session has expired and takes it along; 32 where it stays open
+unfoldable pub visitOf : SatBox → Session → ℕ
+visitOf t s = first (λ r. isExpired (t .clock) r && takes r s) (t .sessions)
+
+-- "Kind 1 opened as owner, 2 joined .. 3 closed": a record of a closing, or of an opening
+abbrev pub saysClosed : Record → Bool
+saysClosed r = eqb (r .kind) 3
+
+abbrev pub saysOpened : Record → Bool
+saysOpened r = not (saysClosed r)
+
+-- a record, its sequence number aside
+abbrev pub unnumbered : Record → Record
+unnumbered r = record { kind = r .kind; cause = r .cause; clock = r .clock; session = r .session; stream = r .stream; frontend = r .frontend; sequence = 0 }
+
+-- what there is at each of the first n places, "in place order"
+unfoldable pub inOrder : (ℕ → List Record) → ℕ → List Record
+inOrder f zero = []
+inOrder f (suc n) = inOrder f n ++ f n
+
+-- the session at place i closes for a cause;
+abbrev pub closingOf : ℕ → SatBox → ℕ → Record
+closingOf cause t i = unnumbered (recordOf 3 cause (sessionAt t i) t)
+
+-- and each other of `along` "closes directly after with cause 3, in place order"
+abbrev pub closingsAt : ℕ → SatBox → ℕ → (ℕ → Bool) → List Record
+closingsAt cause t i along = closingOf cause t i ∷ inOrder (λ k. cond (along k && not (eqb k i)) (closingOf 3 t k ∷ []) []) 32
+
+-- THE CLOSINGS OF A SWEEP of a box at its clock: "2 time-out" of each that closes at the visit of its own place, and with it those that close at that visit
+abbrev pub sweepClosings : SatBox → List Record
+sweepClosings t = inOrder (λ i. cond (eqb (visitOf t (sessionAt t i)) i) (closingsAt 2 t i (λ k. eqb (visitOf t (sessionAt t k)) i)) []) 32
+
+-- THE CLOSINGS OF A TEARDOWN of the session at place i: "1 teardown", and with it those that it takes along
+abbrev pub teardownClosings : SatBox → ℕ → List Record
+teardownClosings t i = closingsAt 1 t i (λ k. takes (sessionAt t i) (sessionAt t k))
 
 -- r says that the session with the number n closed; and that it closed for its age, "2 time-out"
 abbrev pub isClosingOf : ℕ → Record → Bool
@@ -71,3 +117,13 @@ pub data Ends (t : SatBox) (i : ℕ) : Call → Type 0 where
   torn : {s : List ℕ} {clock address draw : ℕ} {b : List ℕ} {l : Lent} → TearsDown t (request s clock address draw b l)
       → takes (sessionAt (sweeping clock t .satbox) (placeNamedBy s (sweeping clock t .satbox))) (sessionAt (sweeping clock t .satbox) i) ≡ true
       → Ends t i (request s clock address draw b l)
+
+-- a request that steps 1 to 10 let through asks a and gives the PIDs l; the box t was swept. It is a SETUP without a session that steps 11 to 17 let
+-- through, and of step 18 there is a free session place and, for a new stream, not "fe is held, or with no fe and no frontend free"
+pub record PassesElse (t : SatBox) (a : Asked) (l : Lists) : Type 0 where
+  pub opening : opens (sightOf t a) ≡ true
+  pub seen : tableCase (sightOf t a) ≡ Passed
+  pub combination : merges (sightOf t a) && isClash (merging t a l .outcome) ≡ false
+  pub pids : merges (sightOf t a) && isTooMany (merging t a l .outcome) ≡ false
+  pub place : hasPlace t ≡ true
+  pub frontend : sightOf t a .stream ≡ 0 → hasFrontend (feedOf t (sightOf t a .fe)) t ≡ true

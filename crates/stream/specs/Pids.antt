@@ -1,6 +1,6 @@
 -- A stream's PIDs, "ascending without repeats", 32 at most, or "all"; and what pids, delpids and addpids make of them. Assumes nothing.
 use Prim.Native.Nat.{ℕ, zero, suc}
-use mathlib.Core.Bool.{Bool, true, false, not, cond, _&&_, _||_}
+use mathlib.Core.Bool.{Bool, false, not, cond, _&&_, _||_}
 use mathlib.Core.List.{List, [], _∷_, foldr, foldl}
 use lib.Dec.{eqb, leb, ltb}
 use lib.ListN.{length, take}
