@@ -45,7 +45,6 @@ abbrev pub cseqLine : Read → List ℕ
 cseqLine (Value n) = line "CSeq: " (decimal n)
 cseqLine Nothing = []
 
--- "Session numbers are 8 upper-case hex digits."
 abbrev pub sessionLine : ℕ → List ℕ → List ℕ
 sessionLine session end = text "Session: " & hex8 session & end
 

@@ -37,11 +37,10 @@ lacksSession v = not (isNamed v) && (not (v .absent) || needsSession (v .method)
 unfoldable pub isDead : Sight → Bool
 isDead v = looksUp (v .method) && (not (eqb (v .stream) 0) && eqb (v .frontend) 0)
 
--- "the stream is not that session's"; "or fe differs from the frontend held"
 abbrev pub isElsewhere : Sight → Bool
 isElsewhere v = not (eqb (v .stream) (v .session .stream)) || (not (eqb (v .fe) 0) && not (eqb (v .fe) (v .frontend)))
 
--- 13: "With a session, not OPTIONS": those; and "SETUP names no stream, SETUP while that session plays"
+-- 13: "With a session, not OPTIONS: the stream is not that session's, SETUP names no stream, SETUP while that session plays, or fe differs .."
 unfoldable pub isOutOfState : Sight → Bool
 isOutOfState v = (isNamed v && looksUp (v .method)) && (isElsewhere v || (isSetup (v .method) && (eqb (v .stream) 0 || not (eqb (v .session .playing) 0))))
 
