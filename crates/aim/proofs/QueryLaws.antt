@@ -2,14 +2,14 @@
 use mathlib.Core.Path.{_≡_, refl, ap, _∙_, sym}
 use mathlib.Core.Bool.{Bool, true, false, not, cond, _&&_, _||_, and-false}
 use mathlib.Core.List.{List, [], _∷_}
-use Prim.Native.Nat.{ℕ, _+_, _-_, _≤_, _<_}
+use Prim.Native.Nat.{ℕ, _+_, _-_, _≤_, _<_, suc}
 use native.Mathlib.Decide.{ℕ-discrete, decLt}
 use native.Mathlib.Omega.{arith}
 use lib.Dec.{ltb, eqb}
 use lib.ListN.{length, drop, getD, set, replicate, length-set, length-drop, drop-of-length-le}
 use lib.Seq.{getD-set-same, getD-set-other}
 use borrow.Author.Tests.{ltb-true, lt-ltb, le-ltb, eq-eqb, ne-eqb}
-use Rattle.scan.specs.Lists.{all, part}
+use Rattle.scan.specs.Lists.{all, part, first}
 use Rattle.scan.specs.Found.{Holds, FirstOf, FirstFrom, cutFrom}
 use Rattle.scan.specs.Cut.{is}
 use Rattle.scan.specs.declared.Span.{Span}
@@ -18,12 +18,12 @@ use Rattle.scan.proofs.Cuts.{cut-start, cut-turn, cut-end}
 use Rattle.scan.proofs.Parts.{part-length, part-part, part-rest, all-same, holds-nothing, some-text}
 use Rattle.digits.specs.Reading.{isValue}
 use Rattle.digits.specs.declared.Read.{Read}
-use Rattle.tuning.specs.Attributes.{attributeOf}
-use Rattle.tuning.specs.Values.{valueOf}
-use Rattle.aim.specs.Query.{attributeIn, areParts, isQuery, areWithin, codeFrom, codeAmong, codeOf, textAmong, textOf, nowhere}
-use Rattle.aim.specs.Found.{isPart, equals, valueIn, isAmong, isWithin, startAmong, startOf, PartIs, brokenQuery, QueryIs}
+use Rattle.tuning.specs.Values.{attributeOf, valueOf}
+use Rattle.aim.specs.Query.{attributeIn, areParts, isQuery, areWithin, codeFrom, codeOf, textOf, nowhere, partsOf}
+use Rattle.aim.specs.Found.{codeAmong, textAmong, isPart, equals, valueIn, isAmong, isWithin, startAmong, startOf, PartIs, brokenQuery, QueryIs}
 use Rattle.aim.specs.declared.query.Part.{Part}
 use Rattle.aim.specs.declared.query.Query.{Query}
+use Rattle.tuning.proofs.Words.{value-none}
 
 -- one part of a query
 pub part-whole : (p : List ℕ) {k a : ℕ} → FirstOf (is 61) p k → k + 1 < length p → a ≡ attributeOf (part 0 k p) → PartIs p (record { attribute = a; value = k + 1 })
@@ -61,6 +61,29 @@ value-inside q p e {r} k i h =
     let v : r .value ≡ equals (part p e q) + 1 = i .value in
     omega arith
 
+-- AN ATTRIBUTE'S TEXT AND CODE, part by part
+pub text-among : (a : ℕ) (q : List ℕ) → textOf a q ≡ textAmong a (partsOf q)
+unfolding textOf
+text-among a q = among (partsOf q)
+  where
+    among : (ps : List (List ℕ)) → valueIn (getD ps (first (λ p. eqb (attributeIn p) a) ps) []) ≡ textAmong a ps
+    among [] = refl
+    among (p ∷ ps) =
+        by-test (λ t. valueIn (getD (p ∷ ps) (cond t 0 (suc (first (λ x. eqb (attributeIn x) a) ps))) []) ≡ cond t (valueIn p) (textAmong a ps)) (eqb (attributeIn p) a)
+        (λ _. refl)
+        (λ _. among ps)
+
+pub code-among : (frontends a : ℕ) (q : List ℕ) → codeOf frontends a q ≡ codeAmong frontends a (partsOf q)
+unfolding codeOf
+code-among frontends a q = ap (λ xs. codeFrom (valueOf frontends a xs)) (text-among a q) ∙ among (partsOf q)
+  where
+    among : (ps : List (List ℕ)) → codeFrom (valueOf frontends a (textAmong a ps)) ≡ codeAmong frontends a ps
+    among [] = ap codeFrom (value-none frontends a)
+    among (p ∷ ps) =
+        by-test (λ t. codeFrom (valueOf frontends a (cond t (valueIn p) (textAmong a ps))) ≡ cond t (codeFrom (valueOf frontends a (valueIn p))) (codeAmong frontends a ps)) (eqb (attributeIn p) a)
+        (λ _. refl)
+        (λ _. among ps)
+
 -- where the text of an attribute stands, once it is taken
 pub record Spanned (q whole rest : List ℕ) (t : Bool) (span : Span) : Type 0 where
   pub there : t ≡ true → Holds q whole (span .start) (span .end)
@@ -82,7 +105,7 @@ pub record Asking (frontends : ℕ) (q : List ℕ) (p : ℕ) (codes : List ℕ) 
   pub held : (a : ℕ) → Spanned q (textOf a q) (textAmong a (cutFrom 38 p q)) (isAmong a taken) (getD spans a nowhere)
 
 pub asking-start : (frontends : ℕ) (q : List ℕ) → Asking frontends q 0 (replicate 13 0) (replicate 13 nowhere) true
-unfolding isQuery areWithin codeOf textOf startOf
+unfolding isQuery areWithin startOf
 asking-start frontends q =
     record {
       inside = omega arith;
@@ -92,11 +115,11 @@ asking-start frontends q =
       form = ap (areParts []) (sym (cut-start 38 q));
       marked = λ a. rw (all-same 13 a nowhere);
       values = ap (all (isWithin frontends)) (sym (cut-start 38 q));
-      coded = λ a. ap (codeAmong frontends a) (cut-start 38 q);
+      coded = λ a. code-among frontends a q ∙ ap (codeAmong frontends a) (cut-start 38 q);
       blank = λ a _. all-same 13 a 0;
       begins = λ a. ap (startAmong a 0) (cut-start 38 q);
       unbegun = λ a _. ap (λ (s : Span). s .start) (all-same 13 a nowhere);
-      held = λ a. rw (all-same 13 a nowhere) (record { there = λ y. never y refl; later = λ _. (ap (textAmong a) (cut-start 38 q), holds-nothing q) });
+      held = λ a. rw (all-same 13 a nowhere) (record { there = λ y. never y refl; later = λ _. (text-among a q ∙ ap (textAmong a) (cut-start 38 q), holds-nothing q) });
     }
 
 pub query-broken : {frontends : ℕ} {q : List ℕ} {r : Query} → isQuery q ≡ false → r ≡ brokenQuery → QueryIs frontends q r
@@ -178,7 +201,7 @@ module _ {frontends : ℕ} {q : List ℕ} {p e : ℕ} {codes : List ℕ} {spans 
     here = record { start = p + r .value; end = e }
 
     pub asking-more : Asking frontends q (e + 1) (set codes b (codeFrom v)) (set spans b here) (w && isValue v)
-    unfolding textOf codeOf startOf
+    unfolding startOf
     asking-more =
         record {
           inside = omega (arith, f .within);

@@ -9,7 +9,7 @@ use lib.ListN.{length, getD, replicate}
 use Rattle.scan.specs.Found.{Holds, placeIn}
 use Rattle.aim.specs.declared.query.Part.{Part}
 use Rattle.aim.specs.declared.query.Query.{Query}
-use Rattle.aim.specs.Query.{areWithin, attributeIn, codeOf, isQuery, nowhere, partsOf, textOf}
+use Rattle.aim.specs.Query.{areWithin, attributeIn, codeOf, isQuery, nowhere, partsOf, textOf, codeFrom}
 use Rattle.scan.specs.declared.Span.{Span}
 use Rattle.digits.specs.declared.Read.the-variants.{Value as Number}
 use Rattle.target.specs.Uri.{streamOf, hostOf, hasQuery, queryOf}
@@ -43,6 +43,15 @@ isAmong a (b ∷ bs) = eqb a b || isAmong a bs
 
 abbrev pub isWithin : ℕ → List ℕ → Bool
 isWithin frontends p = isValue (valueOf frontends (attributeIn p) (valueIn p))
+
+-- an attribute's text and code, part by part
+abbrev pub textAmong : ℕ → List (List ℕ) → List ℕ
+textAmong a [] = []
+textAmong a (p ∷ ps) = cond (eqb (attributeIn p) a) (valueIn p) (textAmong a ps)
+
+abbrev pub codeAmong : ℕ → ℕ → List (List ℕ) → ℕ
+codeAmong frontends a [] = 0
+codeAmong frontends a (p ∷ ps) = cond (eqb (attributeIn p) a) (codeFrom (valueOf frontends a (valueIn p))) (codeAmong frontends a ps)
 
 -- where an attribute's text starts in the query, 0 where it is not given
 abbrev pub startAmong : ℕ → ℕ → List (List ℕ) → ℕ

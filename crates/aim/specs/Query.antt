@@ -3,15 +3,15 @@ use Prim.Native.Nat.{ℕ}
 use mathlib.Core.Bool.{Bool, true, not, cond, _&&_}
 use mathlib.Core.List.{List, [], _∷_}
 use lib.Dec.{ltb, eqb}
-use Rattle.scan.specs.Lists.{all}
+use Rattle.scan.specs.Lists.{all, first}
 use Rattle.scan.specs.Cut.{cut, before, after}
 use Rattle.scan.specs.declared.Span.{Span}
 use Rattle.digits.specs.Reading.{isValue}
 use Rattle.digits.specs.declared.Read.{Read}
 use Rattle.digits.specs.declared.Read.the-variants.{Value, Nothing}
-use Rattle.tuning.specs.Attributes.{attributeOf}
-use Rattle.tuning.specs.Values.{valueOf}
+use Rattle.tuning.specs.Values.{attributeOf, valueOf}
 use Rattle.scan.specs.Trim.{isEmpty}
+use lib.ListN.{getD}
 
 abbrev pub partsOf : List ℕ → List (List ℕ)
 partsOf q = cut 38 q
@@ -32,25 +32,17 @@ isQuery q = areParts [] (partsOf q)
 unfoldable pub areWithin : ℕ → List ℕ → Bool
 areWithin frontends q = all (λ p. isValue (valueOf frontends (attributeIn p) (after 61 p))) (partsOf q)
 
--- an attribute's code, 0 where it is not given
+-- an attribute's text, empty where it is not given
+unfoldable pub textOf : ℕ → List ℕ → List ℕ
+textOf a q = after 61 (getD (partsOf q) (first (λ p. eqb (attributeIn p) a) (partsOf q)) [])
+
+-- and its code, 0 where it is not given
 abbrev pub codeFrom : Read → ℕ
 codeFrom (Value v) = v
 codeFrom Nothing = 0
 
-abbrev pub codeAmong : ℕ → ℕ → List (List ℕ) → ℕ
-codeAmong frontends a [] = 0
-codeAmong frontends a (p ∷ ps) = cond (eqb (attributeIn p) a) (codeFrom (valueOf frontends a (after 61 p))) (codeAmong frontends a ps)
-
 unfoldable pub codeOf : ℕ → ℕ → List ℕ → ℕ
-codeOf frontends a q = codeAmong frontends a (partsOf q)
-
--- an attribute's text, empty where it is not given
-abbrev pub textAmong : ℕ → List (List ℕ) → List ℕ
-textAmong a [] = []
-textAmong a (p ∷ ps) = cond (eqb (attributeIn p) a) (after 61 p) (textAmong a ps)
-
-unfoldable pub textOf : ℕ → List ℕ → List ℕ
-textOf a q = textAmong a (partsOf q)
+codeOf frontends a q = codeFrom (valueOf frontends a (textOf a q))
 
 abbrev pub nowhere : Span
 nowhere = record { start = 0; end = 0 }

@@ -31,6 +31,11 @@ pub struct Aim {
     pub query: Span,
 }
 
+impl Aim {
+    // The bytes that a URI has at most.
+    pub const LONGEST: usize = 1024;
+}
+
 fn takes_no_query(method: Method) -> bool
     ensures { λ r. ⌜ r ≡ takesNoQuery method ⌝ }
 {
@@ -159,7 +164,7 @@ fn asked(method: Method, u: &[u8], uri: Uri, frontends: u8) -> Aim
 pub fn read_aim(method: Method, u: &[u8], frontends: u8) -> Aim
     ensures { λ r. ⌜ AimIs frontends method (now (u .entry)) r ⌝ }
 {
-    if 1024 < u.len() {
+    if Aim::LONGEST < u.len() {
         return refused(Refusal::UriLong);
     }
     let uri = target::read_uri(u);

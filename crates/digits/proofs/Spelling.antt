@@ -2,7 +2,7 @@
 use mathlib.Core.Path.{_≡_, refl, sym, _∙_}
 use mathlib.Core.Bool.{true, false, cond, _&&_, and-false}
 use mathlib.Core.List.{List, [], _∷_, map}
-use Prim.Native.Nat.{ℕ, zero, suc, _+_, _*_, _-_, _≤_, _<_}
+use Prim.Native.Nat.{ℕ, zero, suc, _+_, _*_, _-_, _^_, _≤_, _<_}
 use native.Mathlib.Nat.{le-refl, le-trans, mul-le-mul, mul-le-mul-left}
 use native.Mathlib.Omega.{arith}
 use lib.Dec.{leb, ltb}
@@ -42,16 +42,21 @@ digits-below base [] h e i = h
 digits-below base (x ∷ xs) h e zero = ltb-true (digitOf x) base (and-both (ltb (digitOf x) base) (areDigits base xs) e .0)
 digits-below base (x ∷ xs) h e (suc i) = digits-below base xs h (and-both (ltb (digitOf x) base) (areDigits base xs) e .1) i
 
--- eight hexadecimal digits say a number of 32 bits: the limit settles nothing
+-- where every number of so many digits is within the limit, it settles nothing
+pub all-digits : (base most limit : ℕ) (s : List ℕ) → 0 < base → length s ≡ most → 1 ≤ most → base ^ most ≤ limit + 1 → readIn base most limit s ≡ cond (areDigits base s) (Value (spelled base s)) Nothing
+all-digits base most limit s b e h k =
+    rw (le-leb 1 (length s) (omega arith), le-leb (length s) most (omega arith))
+    (by-test (λ t. cond (t && leb (spelled base s) limit) (Value (spelled base s)) Nothing ≡ cond t (Value (spelled base s)) Nothing) (areDigits base s) fits (λ _. refl))
+  where
+    fits : areDigits base s ≡ true → cond (leb (spelled base s) limit) (Value (spelled base s)) Nothing ≡ Value (spelled base s)
+    fits d =
+        let v = rw (length-map s digitOf, e) at (value-below base (map digitOf s) (digits-below base s b d)) in
+        rw (le-leb (spelled base s) limit (omega arith))
+
+-- eight hexadecimal digits say a number of 32 bits
 pub hex-limit : (s : List ℕ) → length s ≡ 8 → readIn 16 8 4294967295 s ≡ readHex8 s
 unfolding readHex8
-hex-limit s e = rw e (by-test (λ t. cond (t && leb (spelled 16 s) 4294967295) (Value (spelled 16 s)) Nothing ≡ cond t (Value (spelled 16 s)) Nothing) (areDigits 16 s) fits none)
-  where
-    fits : areDigits 16 s ≡ true → cond (leb (spelled 16 s) 4294967295) (Value (spelled 16 s)) Nothing ≡ Value (spelled 16 s)
-    fits d = let k = rw (length-map s digitOf, e) at (value-below 16 (map digitOf s) (digits-below 16 s (omega arith) d)) in rw (le-leb (spelled 16 s) 4294967295 (omega arith))
-
-    none : areDigits 16 s ≡ false → Nothing ≡ Nothing
-    none d = refl
+hex-limit s e = rw (all-digits 16 8 4294967295 s (omega arith) e (omega arith) (omega arith), e)
 
 pub hex-length : (s : List ℕ) → (length s ≡ 8 → ⊥) → Nothing ≡ readHex8 s
 unfolding readHex8

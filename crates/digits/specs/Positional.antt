@@ -8,12 +8,11 @@ abbrev pub digitsIn : ℕ → ℕ → ℕ → List ℕ
 digitsIn base zero v = []
 digitsIn base (suc k) v = digitsIn base k (v / base) ++ (v % base ∷ [])
 
--- the number that the digits say after v
+-- the number that the digits say after v, and that they say alone
 abbrev pub valueFrom : ℕ → ℕ → List ℕ → ℕ
 valueFrom base v [] = v
 valueFrom base v (d ∷ ds) = valueFrom base (v * base + d) ds
 
--- the number that the digits say
 abbrev pub valueIn : ℕ → List ℕ → ℕ
 valueIn base ds = valueFrom base 0 ds
 

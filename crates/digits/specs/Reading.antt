@@ -16,11 +16,10 @@ use Rattle.digits.specs.declared.Zeros.the-variants.{Allowed, Refused}
 abbrev pub digitOf : ℕ → ℕ
 digitOf b = cond (isDigit b) (b - 48) (cond (isBetween 65 70 b) (b - 55) (cond (isBetween 97 102 b) (b - 87) 255))
 
--- every byte is a digit of the base
+-- every byte is a digit of the base; the number that they say
 abbrev pub areDigits : ℕ → List ℕ → Bool
 areDigits base xs = all (λ b. ltb (digitOf b) base) xs
 
--- the number that they say
 abbrev pub spelled : ℕ → List ℕ → ℕ
 spelled base xs = valueIn base (map digitOf xs)
 

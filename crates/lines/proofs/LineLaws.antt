@@ -17,8 +17,8 @@ use Rattle.scan.specs.Trim.{isEmpty}
 use Rattle.scan.specs.Cut.{push}
 use Rattle.scan.specs.declared.Class.the-variants.{NotText}
 use Rattle.scan.proofs.Bools.{never, and-both, by-test, by-cases}
-use Rattle.lines.specs.Lines.{lines, isEnd}
-use Rattle.lines.specs.Laid.{areHeaders, areAll, isPairAt}
+use Rattle.lines.specs.Lines.{lines}
+use Rattle.lines.specs.Laid.{isEnd, areHeaders, areAll, isPairAt}
 use Rattle.lines.specs.Headers.{isHeader}
 
 -- CR LF at a place, counted by successors

@@ -7,10 +7,10 @@ use native.Mathlib.Decide.{ℕ-discrete}
 use native.Mathlib.Nat.{sub-zero}
 use native.Mathlib.Omega.{arith}
 use lib.Dec.{eqb}
-use lib.ListN.{length, drop, getD, set, replicate, length-append, length-set, drop-of-length-le}
+use lib.ListN.{length, drop, getD, set, replicate, length-append, length-set, drop-of-length-le, take}
 use lib.Seq.{getD-set-same, getD-set-other}
 use borrow.Author.Tests.{le-leb, lt-leb, eqb-true, eq-eqb, ne-eqb}
-use Rattle.scan.specs.Lists.{all, part}
+use Rattle.scan.specs.Lists.{all, part, first}
 use Rattle.scan.specs.Found.{Holds, FirstFrom, inClass, isWord}
 use Rattle.scan.specs.Trim.{isEmpty}
 use Rattle.scan.specs.Cut.{cut}
@@ -21,8 +21,8 @@ use Rattle.scan.proofs.Bools.{never, by-test, by-cases, cond-keeps}
 use Rattle.scan.proofs.Loops.{first-within}
 use Rattle.scan.proofs.Parts.{part-length, part-empty, all-same, some-part, holds-nothing, holds-inside}
 use Rattle.lines.specs.Headers.{known, isHeader, headerOf, valuesOf}
-use Rattle.lines.specs.Laid.{nameOf, valueOf, valueAt, firstStart, HeaderIs, SeenIs, unseen, seenAgain, isPairAt, brokenLines, HeadersAre, LinesAre, areHeaders, areAll}
-use Rattle.lines.specs.Lines.{lines, isLaidOut, requestLine, headerLines, untilEmpty}
+use Rattle.lines.specs.Laid.{nameOf, valueOf, valueAt, firstStart, HeaderIs, SeenIs, unseen, seenAgain, isPairAt, brokenLines, HeadersAre, LinesAre, areHeaders, areAll, untilEmpty}
+use Rattle.lines.specs.Lines.{lines, isLaidOut, requestLine, headerLines}
 use Rattle.lines.specs.declared.Seen.{Seen}
 use Rattle.lines.specs.declared.Header.{Header}
 use Rattle.lines.specs.declared.Lines.{Lines}
@@ -225,6 +225,11 @@ pub lines-broken : {s : List ℕ} {r : Lines} → isLaidOut s ≡ false → r �
 lines-broken n e =
     rw e (record { sound = sym n; line = λ y. never y refl; headers = λ y. never y refl; starts = λ y. never y refl; none = λ _. refl })
 
+until-empty : (ls : List (List ℕ)) → take (first isEmpty ls) ls ≡ untilEmpty ls
+until-empty [] = refl
+until-empty (l ∷ ls) =
+    by-test (λ t. take (cond t 0 (suc (first isEmpty ls))) (l ∷ ls) ≡ cond t [] (l ∷ untilEmpty ls)) (isEmpty l) (λ _. refl) (λ _. ap (λ r. l ∷ r) (until-empty ls))
+
 pub lines-long : (s : List ℕ) {r : Lines} → 2048 < length s → r ≡ brokenLines → LinesAre s r
 unfolding isLaidOut
 lines-long s h e = lines-broken (rw (lt-leb (length s) 2048 h)) e
@@ -270,7 +275,7 @@ module _ (s : List ℕ) {e : ℕ} (short : length s ≤ 2048) (f : FirstFrom (in
         record {
           sound = h .sound ∙ sym (laid ∙ ap areAll turn ∙ rw (some, line-text s f q));
           line = λ w. rw (turn, h .ended w) (record { order = omega arith; within = omega arith; is = refl });
-          headers = λ w k. rw turn (h .headers w k);
-          starts = λ w k. rw (turn, long) (h .starts w k);
+          headers = λ w k. rw (turn, until-empty (lines (drop (e + 2) s))) (h .headers w k);
+          starts = λ w k. rw (turn, long, until-empty (lines (drop (e + 2) s))) (h .starts w k);
           none = h .none;
         }

@@ -22,11 +22,10 @@ known = text "CSeq Session Transport Require Accept"
 abbrev pub headerOf : List ℕ → ℕ
 headerOf line = placeAmong Ignored known (before 58 line)
 
--- the values of the headers of one kind, in the order in which they were sent
+-- the values of the headers of one kind, in the order in which they were sent; and the first of them
 abbrev pub valuesOf : ℕ → List (List ℕ) → List (List ℕ)
 valuesOf k [] = []
 valuesOf k (h ∷ hs) = cond (eqb (headerOf h) k) (trim (after 58 h) ∷ valuesOf k hs) (valuesOf k hs)
 
--- the first of them, empty where there is none
 abbrev pub firstValue : List (List ℕ) → List ℕ
 firstValue vs = getD vs 0 []

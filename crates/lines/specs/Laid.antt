@@ -3,18 +3,18 @@
 use Prim.Native.Nat.{ℕ, _+_, _≤_, min}
 use mathlib.Core.Path.{_≡_}
 use mathlib.Core.Bool.{Bool, true, false, cond, _&&_}
-use mathlib.Core.List.{List}
+use mathlib.Core.List.{List, [], _∷_}
 use lib.Dec.{eqb}
 use lib.ListN.{length, drop, getD, replicate}
 use Rattle.scan.specs.Found.{Holds, placeIn, leading}
 use Rattle.lines.specs.Headers.{isHeader, headerOf, valuesOf, firstValue}
-use Rattle.lines.specs.Lines.{lines, areLines, untilEmpty, isLaidOut, requestLine, headerLines}
+use Rattle.lines.specs.Lines.{lines, areLines, isLaidOut, requestLine, headerLines}
 use Rattle.lines.specs.declared.Seen.{Seen}
 use Rattle.lines.specs.declared.Header.{Header}
 use Rattle.lines.specs.declared.Lines.{Lines}
-use Rattle.scan.specs.Lists.{first}
+use Rattle.scan.specs.Lists.{first, all}
 use Rattle.scan.specs.Cut.{is, before, after}
-use Rattle.scan.specs.Trim.{trim}
+use Rattle.scan.specs.Trim.{trim, isEmpty}
 
 abbrev pub colon : List ℕ → ℕ
 colon line = first (is 58) line
@@ -56,6 +56,15 @@ unseen = record { times = 0; start = 0; end = 0 }
 abbrev pub seenAgain : Seen → ℕ → ℕ → Seen
 seenAgain seen start end =
     cond (eqb (seen .times) 0) (record { times = 1; start = start; end = end }) (record { times = 2; start = seen .start; end = seen .end })
+
+-- nothing stands after the last pair
+abbrev pub isEnd : List (List ℕ) → Bool
+isEnd ls = all isEmpty ls && eqb (length ls) 1
+
+-- up to the empty line
+abbrev pub untilEmpty : List (List ℕ) → List (List ℕ)
+untilEmpty [] = []
+untilEmpty (l ∷ ls) = cond (isEmpty l) [] (l ∷ untilEmpty ls)
 
 -- the lines from the second on, and from the first on
 abbrev pub areHeaders : List (List ℕ) → Bool

@@ -4,8 +4,8 @@ use Prim.Native.Nat.{ℕ}
 use mathlib.Core.Bool.{Bool, false, cond, _&&_, true}
 use mathlib.Core.List.{List, [], _∷_}
 use lib.Dec.{leb, eqb}
-use lib.ListN.{length, getD, drop}
-use Rattle.scan.specs.Lists.{all}
+use lib.ListN.{length, getD, drop, take}
+use Rattle.scan.specs.Lists.{all, first}
 use Rattle.scan.specs.Classes.{isText}
 use Rattle.scan.specs.Trim.{isEmpty}
 use Rattle.scan.specs.Cut.{push}
@@ -17,26 +17,18 @@ lines [] = [] ∷ []
 lines (x ∷ []) = (x ∷ []) ∷ []
 lines (x ∷ y ∷ xs) = cond (eqb x 13 && eqb y 10) ([] ∷ lines xs) (push x (lines (y ∷ xs)))
 
--- nothing stands after the last pair
-abbrev pub isEnd : List (List ℕ) → Bool
-isEnd ls = all isEmpty ls && eqb (length ls) 1
-
--- the empty line is the last; "Each line after the first and before the last is a header", and the first passes a test of its own
+-- nothing stands behind the empty line; "Each line after the first and before the last is a header", and the first passes a test of its own
 abbrev pub areLines : (List ℕ → Bool) → List (List ℕ) → Bool
 areLines test [] = false
-areLines test (l ∷ ls) = cond (isEmpty l) (isEnd ls) (all isText l && (test l && areLines isHeader ls))
+areLines test (l ∷ ls) = cond (isEmpty l) (all isEmpty ls && eqb (length ls) 1) (all isText l && (test l && areLines isHeader ls))
 
 -- step 1: "Layout broken or over 2,048 bytes"
 unfoldable pub isLaidOut : List ℕ → Bool
 isLaidOut s = leb (length s) 2048 && areLines (λ l. true) (lines s)
 
--- up to the empty line
-abbrev pub untilEmpty : List (List ℕ) → List (List ℕ)
-untilEmpty [] = []
-untilEmpty (l ∷ ls) = cond (isEmpty l) [] (l ∷ untilEmpty ls)
-
+-- the first line, and those from the second up to the empty one
 unfoldable pub requestLine : List ℕ → List ℕ
 requestLine s = getD (lines s) 0 []
 
 unfoldable pub headerLines : List ℕ → List (List ℕ)
-headerLines s = untilEmpty (drop 1 (lines s))
+headerLines s = take (first isEmpty (drop 1 (lines s))) (drop 1 (lines s))

@@ -31,6 +31,11 @@ pub struct Lines {
     pub line: usize,
 }
 
+impl Lines {
+    // The bytes that a request has at most.
+    pub const LONGEST: usize = 2048;
+}
+
 fn no_header() -> Header
     ensures { λ r. ⌜ r ≡ noHeader ⌝ }
 {
@@ -172,7 +177,7 @@ fn headers_after(s: &[u8], line: usize) -> Lines
 pub fn read_lines(s: &[u8]) -> Lines
     ensures { λ r. ⌜ LinesAre (now (s .entry)) r ⌝ }
 {
-    if 2048 < s.len() {
+    if Lines::LONGEST < s.len() {
         return broken();
     }
     let line = scan::first_from(s, 0, Class::NotText);

@@ -1,7 +1,7 @@
 -- What document 01's edges need beside computation: the number that a draw gives is the first, and a request without fe is read alike on
 -- every box. Assumes nothing.
 use Prim.Native.Nat.{ℕ, zero, suc, _+_, _≤_, _<_}
-use mathlib.Core.Path.{_≡_, refl, _∙_, ap, ap₂, subst, fun-ext}
+use mathlib.Core.Path.{_≡_, refl, _∙_, ap, ap₂, subst, fun-ext, sym}
 use mathlib.Core.Bool.{Bool, true, false, not, cond}
 use mathlib.Core.List.{List, [], _∷_, map}
 use native.Mathlib.Omega.{arith}
@@ -11,8 +11,8 @@ use Rattle.scan.specs.Lists.{all}
 use Rattle.scan.proofs.Bools.{Case as Test, case, is, isnt, Same, sames, same, other, and-both, or-second}
 use Rattle.target.specs.Uri.{hasQuery, queryOf}
 use Rattle.tuning.specs.Values.{valueOf}
-use Rattle.aim.specs.Query.{partsOf, attributeIn, areWithin, codeAmong, codeOf}
-use Rattle.aim.specs.Found.{valueIn, isWithin}
+use Rattle.aim.specs.Query.{partsOf, attributeIn, areWithin}
+use Rattle.aim.specs.Found.{codeAmong, valueIn, isWithin}
 use Rattle.aim.specs.Aim.{uriRefusal}
 use Rattle.refusals.specs.Refusals.{isPassed}
 use Rattle.refusals.specs.declared.Refusal.{Refusal}
@@ -30,6 +30,7 @@ use Rattle.closings.specs.Closing.{sweeping}
 use Rattle.serving.specs.Serving.{served, clientOf, answered}
 use Rattle.satbox.specs.Requests.{requested}
 use Rattle.serving.specs.declared.opening.Client.{Client}
+use Rattle.aim.proofs.QueryLaws.{code-among}
 
 -- DRAWING: every number from n on that comes before the one given is taken
 abbrev AllTaken : List Session → ℕ → ℕ → Type 0
@@ -91,10 +92,11 @@ module _ (frontends : ℕ) where
     refusal-alike = rw (within-alike (partsOf (queryOf (uriOf s))) e)
 
     codes-alike : codesIn frontends (uriOf s) ≡ codesIn 2 (uriOf s)
-    unfolding codesIn codeOf
+    unfolding codesIn
     codes-alike =
+        let q : List ℕ = queryOf (uriOf s) in
         ap (λ f. map f (0 ∷ 1 ∷ 2 ∷ 3 ∷ 4 ∷ 5 ∷ 6 ∷ 7 ∷ 8 ∷ 9 ∷ 10 ∷ 11 ∷ 12 ∷ []))
-        (fun-ext (λ a. ap (λ code. cond (hasQuery (uriOf s)) code 0) (code-alike a (partsOf (queryOf (uriOf s))) e)))
+        (fun-ext (λ a. ap (λ code. cond (hasQuery (uriOf s)) code 0) (code-among frontends a q ∙ code-alike a (partsOf q) e ∙ sym (code-among 2 a q))))
 
     asked-alike : askedOf frontends s ≡ askedOf 2 s
     asked-alike = rw codes-alike

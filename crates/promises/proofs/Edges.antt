@@ -12,8 +12,7 @@ use Rattle.scan.specs.Words.{placeAmong}
 use Rattle.digits.specs.Reading.{readNumber, readHex8}
 use Rattle.writing.specs.Writing.{decimal, hex8, dotted, width, numeral, written}
 use Rattle.lines.specs.Lines.{isLaidOut, requestLine, headerLines}
-use Rattle.tuning.specs.Attributes.{attributeOf}
-use Rattle.tuning.specs.Values.{valueOf, frequency, arePids}
+use Rattle.tuning.specs.Values.{attributeOf, valueOf, frequency, arePids}
 use Rattle.target.specs.Uri.{isUri, streamIn}
 use Rattle.aim.specs.Query.{isQuery, areWithin, attributeIn, codeOf, textOf}
 use Rattle.aim.specs.Aim.{uriRefusal}

@@ -9,8 +9,7 @@ use Rattle.digits.specs.Reading.{readNumber, readHex8}
 use Rattle.digits.specs.declared.Read.the-variants.{Value as Number, Nothing}
 use Rattle.lines.specs.Lines.{isLaidOut, requestLine, headerLines}
 use Rattle.lines.specs.Headers.{valuesOf, firstValue}
-use Rattle.tuning.specs.Attributes.{attributeOf}
-use Rattle.tuning.specs.Values.{valueOf, frequency, arePids}
+use Rattle.tuning.specs.Values.{attributeOf, valueOf, frequency, arePids}
 use Rattle.target.specs.Uri.{isUri, streamIn, streamOf, hostOf}
 use Rattle.aim.specs.Query.{isQuery, areWithin, attributeIn, codeOf, textOf}
 use Rattle.aim.specs.Aim.{uriRefusal, codeIn, textIn}

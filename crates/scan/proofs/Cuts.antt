@@ -9,9 +9,9 @@ use lib.ListN.{length, take, drop, length-drop}
 use lib.Seq.{drop-drop}
 use borrow.Author.Tests.{lt-ltb, ltb-true, ltb-false, le-leb, lt-leb, eq-eqb, eqb-true}
 use Rattle.scan.specs.Lists.{all, first, part}
-use Rattle.scan.specs.Found.{FirstFrom, cutFrom}
+use Rattle.scan.specs.Found.{FirstFrom, cutFrom, joined}
 use Rattle.scan.proofs.Bools.{never}
-use Rattle.scan.specs.Cut.{is, push, cut, joined}
+use Rattle.scan.specs.Cut.{is, push, cut}
 
 -- the pieces after the separator at place k: none where the list ends there
 abbrev after : ℕ → ℕ → List ℕ → List (List ℕ)

@@ -1,7 +1,7 @@
 -- A text taken apart at a byte: a header at its colon, a request line at its spaces, a query at its ampersands. Assumes nothing.
 use Prim.Native.Nat.{ℕ, _+_}
 use mathlib.Core.Bool.{Bool, cond}
-use mathlib.Core.List.{List, [], _∷_, _++_}
+use mathlib.Core.List.{List, [], _∷_}
 use lib.Dec.{eqb, ltb}
 use Rattle.scan.specs.Lists.{first, part}
 use lib.ListN.{length, drop}
@@ -28,9 +28,3 @@ push x (l ∷ ls) = (x ∷ l) ∷ ls
 abbrev pub cut : ℕ → List ℕ → List (List ℕ)
 cut b [] = [] ∷ []
 cut b (x ∷ xs) = cond (is b x) ([] ∷ cut b xs) (push x (cut b xs))
-
--- the pieces joined again, with b between each two
-abbrev pub joined : ℕ → List (List ℕ) → List ℕ
-joined b [] = []
-joined b (l ∷ []) = l
-joined b (l ∷ m ∷ ls) = l ++ (b ∷ joined b (m ∷ ls))

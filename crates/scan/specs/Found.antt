@@ -2,7 +2,7 @@
 use Prim.Native.Nat.{ℕ, _+_, _≤_, max}
 use mathlib.Core.Bool.{Bool, cond, not}
 use mathlib.Core.Path.{_≡_}
-use mathlib.Core.List.{List, [], _∷_}
+use mathlib.Core.List.{List, [], _∷_, _++_}
 use lib.ListN.{length, drop}
 use Rattle.scan.specs.Lists.{first, part}
 use Rattle.scan.specs.declared.Span.{Span}
@@ -66,3 +66,9 @@ inClass Digit b = isDigit b
 inClass Name b = isName b
 inClass Text b = isText b
 inClass NotText b = not (isText b)
+
+-- the pieces joined again, with b between each two
+abbrev pub joined : ℕ → List (List ℕ) → List ℕ
+joined b [] = []
+joined b (l ∷ []) = l
+joined b (l ∷ m ∷ ls) = l ++ (b ∷ joined b (m ∷ ls))

@@ -24,8 +24,7 @@ use Rattle.target.specs.Uri.{startsWith, hasQuery, queryOf}
 use Rattle.tuning.specs.Values.{valueOf}
 use Rattle.stream.specs.Arrays.{kept, isFit, areFit, isIn}
 use Rattle.stream.proofs.Fitting.{all-in, fit-of, read-ranged}
-use Rattle.aim.specs.Query.{partsOf, attributeIn, codeFrom, codeAmong, codeOf}
-use Rattle.aim.specs.Found.{valueIn}
+use Rattle.aim.specs.Query.{codeFrom, codeOf, textOf}
 use Rattle.aim.specs.Aim.{queryIn, codeIn}
 use Rattle.refusals.specs.Refusals.{_refuses_or_, stepOf}
 use Rattle.refusals.specs.declared.Refusal.{Refusal}
@@ -88,15 +87,11 @@ module _ (frontends : ℕ) (s : List ℕ) (r : Request) (i : RequestIs frontends
 -- a code is 0 or read of a text
 pub code-keeps : (P : ℕ → Type 0) (frontends a : ℕ) (u : List ℕ) → P 0 → ((xs : List ℕ) (c : ℕ) → valueOf frontends a xs ≡ Value c → P c) → P (codeIn frontends a u)
 unfolding codeOf
-code-keeps P frontends a u z h = cond-keeps P (hasQuery u) _ 0 (λ _. among (partsOf (queryOf u))) (λ _. z)
+code-keeps P frontends a u z h = cond-keeps P (hasQuery u) _ 0 (λ _. one (valueOf frontends a (textOf a (queryOf u))) (h (textOf a (queryOf u)))) (λ _. z)
   where
     one : (r : Read) → ((c : ℕ) → r ≡ Value c → P c) → P (codeFrom r)
     one (Value c) k = k c refl
     one Nothing k = z
-
-    among : (ps : List (List ℕ)) → P (codeAmong frontends a ps)
-    among [] = z
-    among (x ∷ ps) = cond-keeps P (eqb (attributeIn x) a) _ _ (λ _. one (valueOf frontends a (valueIn x)) (h (valueIn x))) (λ _. among ps)
 
 pub asked-fit : (frontends : ℕ) (s : List ℕ) → areFit (askedOf frontends s .codes) ≡ true
 asked-fit frontends s = fit-of (codesIn frontends (uriOf s)) fits

@@ -3,24 +3,23 @@
 use mathlib.Core.Path.{_≡_, refl, subst, sym}
 use mathlib.Core.Bool.{Bool, true, cond, _&&_, _||_}
 use mathlib.Core.List.{List, [], _∷_}
-use Prim.Native.Nat.{ℕ, _+_, _*_, _≤_}
+use Prim.Native.Nat.{ℕ, _+_, _≤_}
 use native.Mathlib.Omega.{arith}
 use lib.Dec.{eqb, ltb}
-use lib.ListN.{length, getD, drop}
+use lib.ListN.{length, getD, drop, take}
 use borrow.Author.Tests.{le-leb, ltb-true, eqb-true, eq-eqb}
-use Rattle.scan.specs.Text.{text}
+use Rattle.scan.specs.Text.{text, _&_}
 use Rattle.scan.specs.Classes.{isBetween}
 use Rattle.scan.specs.Lists.{all}
-use Rattle.scan.specs.Cut.{cut}
+use Rattle.scan.specs.Cut.{cut, before, after}
 use Rattle.scan.specs.Words.{placeAmong}
 use Rattle.scan.specs.declared.Case.the-variants.{Counts}
 use Rattle.scan.proofs.Bools.{never, and-both, by-test, both, or-right}
-use Rattle.digits.specs.declared.Read.{Read}
 use Rattle.digits.specs.declared.Read.the-variants.{Value, Nothing}
 use Rattle.digits.specs.declared.Zeros.the-variants.{Allowed}
 use Rattle.digits.proofs.Limits.{Is-read, number-between}
-use Rattle.tuning.specs.Values.{plain, word, megahertz, hundredths, frequencyFrom, frequency, valueOf}
-use Rattle.tuning.specs.Found.{inBand}
+use Rattle.digits.specs.Reading.{readNumber, atLeast}
+use Rattle.tuning.specs.Values.{plain, word, frequency, valueOf, isMegahertz}
 use Rattle.stream.specs.Values.{areInRange, given, merged}
 use Rattle.stream.specs.Arrays.{isInRange, kept, isFit, areFit, isIn}
 use Rattle.stream.specs.declared.Values.{Values}
@@ -69,9 +68,12 @@ none-read e = let z : _≡_ {A = ℕ} 0 1 = cc in absurd (omega arith)
 same-read : {v c : ℕ} → Value v ≡ Value c → v ≡ c
 same-read e = cc
 
+number-ranged : (most low high : ℕ) (xs : List ℕ) {c : ℕ} → atLeast low (readNumber Allowed most high xs) ≡ Value c → isBetween low high c ≡ true
+number-ranged most low high xs {c} e =
+    let b = subst (Is-read (λ v. (low ≤ v) × (v ≤ high))) e (number-between Allowed most low high xs) in both (le-leb low c (b .0)) (le-leb c high (b .1))
+
 plain-between : (low high : ℕ) (xs : List ℕ) {c : ℕ} → plain low high xs ≡ Value c → isBetween low high c ≡ true
-plain-between low high xs {c} e =
-    let b = subst (Is-read (λ v. (low ≤ v) × (v ≤ high))) e (number-between Allowed 5 low high xs) in both (le-leb low c (b .0)) (le-leb c high (b .1))
+plain-between low high xs e = number-ranged 5 low high xs e
 
 word-most : (words xs : List ℕ) {c : ℕ} → word words xs ≡ Value c → c ≤ length (cut 32 words)
 word-most words xs {c} e =
@@ -82,18 +84,10 @@ word-most words xs {c} e =
 
 frequency-between : (xs : List ℕ) {c : ℕ} → frequency xs ≡ Value c → isBetween 1070000 1275000 c ≡ true
 unfolding frequency
-frequency-between xs {c} = by (megahertz xs) (hundredths xs)
-  where
-    band : (v : ℕ) → inBand v ≡ Value c → isBetween 1070000 1275000 c ≡ true
-    band v e =
-        by-test (λ t. cond t (Value v) Nothing ≡ Value c → isBetween 1070000 1275000 c ≡ true) (isBetween 1070000 1275000 v)
-        (λ y z. rw (same-read z) at y)
-        (λ n z. none-read z) e
-
-    by : (r s : Read) → frequencyFrom r s ≡ Value c → isBetween 1070000 1275000 c ≡ true
-    by (Value m) (Value h) e = band (m * 100 + h) e
-    by (Value m) Nothing e = none-read e
-    by Nothing s e = none-read e
+frequency-between xs {c} e =
+    by-test (λ t. cond t (atLeast 1070000 (readNumber Allowed 7 1275000 (before 46 xs & take 2 (after 46 xs & text "00")))) Nothing ≡ Value c → isBetween 1070000 1275000 c ≡ true) (isMegahertz xs)
+    (λ _ z. number-ranged 7 1070000 1275000 (before 46 xs & take 2 (after 46 xs & text "00")) z)
+    (λ _ z. none-read z) e
 
 in-front : (P : ℕ → Type 0) (a x : ℕ) (l : List ℕ) → P x → (isIn a l ≡ true → P a) → isIn a (x ∷ l) ≡ true → P a
 in-front P a x l p f =

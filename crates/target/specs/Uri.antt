@@ -23,7 +23,6 @@ hasQuery u = has 63 u
 abbrev pub queryOf : List ℕ → List ℕ
 queryOf u = after 63 u
 
--- a text that starts with another
 abbrev pub startsWith : List ℕ → List ℕ → Bool
 startsWith t u = areAlike Counts (part 0 (length t) u) t
 

@@ -1,24 +1,30 @@
 -- A frequency by its two parts, each found from the place of the dot, and how large they are. Assumes nothing.
-use mathlib.Core.Path.{_≡_, ap, subst, _∙_, sym}
-use mathlib.Core.Bool.{Bool, cond}
-use mathlib.Core.List.{List}
+use mathlib.Core.Path.{_≡_, ap, subst, _∙_, sym, refl, ap₂}
+use mathlib.Core.Bool.{Bool, cond, true, false, not, _&&_, _||_, and-true, and-false}
+use mathlib.Core.List.{List, [], _∷_, _++_, map}
 use Prim.Native.Nat.{ℕ, _+_, _*_, _≤_, _<_}
 use native.Mathlib.Omega.{arith}
-use lib.Dec.{eqb, ltb}
-use lib.ListN.{length, drop}
-use borrow.Author.Tests.{lt-ltb, le-ltb, eq-eqb, ne-eqb}
+use lib.Dec.{eqb, ltb, leb}
+use lib.ListN.{length, drop, take, length-append, drop-of-length-le}
+use borrow.Author.Tests.{lt-ltb, le-ltb, eq-eqb, ne-eqb, lt-leb, eqb-true, ltb-false}
 use Rattle.scan.specs.Lists.{first, part}
 use Rattle.scan.specs.Found.{FirstOf}
-use Rattle.scan.specs.Cut.{is}
-use Rattle.scan.proofs.Bools.{cond-keeps}
-use Rattle.scan.proofs.Parts.{part-rest}
-use Rattle.digits.specs.Reading.{readNumber}
+use Rattle.scan.specs.Cut.{is, before, after, has}
+use Rattle.scan.proofs.Bools.{cond-keeps, and-and, by-test}
+use Rattle.scan.proofs.Parts.{part-rest, part-length}
+use Rattle.digits.specs.Reading.{readNumber, digitOf, areDigits, spelled, atLeast}
 use Rattle.digits.specs.declared.Read.{Read}
 use Rattle.digits.specs.declared.Read.the-variants.{Value, Nothing}
 use Rattle.digits.specs.declared.Zeros.the-variants.{Allowed}
 use Rattle.digits.proofs.Limits.{Is-read, number-most}
-use Rattle.tuning.specs.Values.{megahertz, tenfold, fraction, hundredths, frequencyFrom}
-use Rattle.tuning.specs.Found.{inBand}
+use Rattle.tuning.specs.Found.{megahertz, tenfold, fraction, hundredths, frequencyFrom, inBand}
+use native.Mathlib.Nat.{sub-zero}
+use Rattle.scan.specs.Text.{text, _&_}
+use Rattle.scan.specs.Classes.{isBetween}
+use Rattle.scan.proofs.Loops.{first-within}
+use Rattle.digits.specs.Positional.{valueFrom}
+use Rattle.digits.proofs.Spelling.{all-digits}
+use Rattle.tuning.specs.Values.{frequency}
 
 abbrev dot : List ℕ → ℕ
 dot xs = first (is 46) xs
@@ -95,3 +101,90 @@ module _ (a b : Read) {w : Read} (p : w ≡ a) where
 
     pub frequency-half : h ≡ Nothing → Nothing ≡ frequencyFrom a b
     frequency-half g = rw (sym p ∙ e, sym q ∙ g)
+
+-- THE SAME READ AT ONCE, as seven digits
+digits-both : (xs ys : List ℕ) → areDigits 10 (xs ++ ys) ≡ areDigits 10 xs && areDigits 10 ys
+digits-both [] ys = refl
+digits-both (x ∷ xs) ys = ap (λ t. ltb (digitOf x) 10 && t) (digits-both xs ys) ∙ and-and (ltb (digitOf x) 10) (areDigits 10 xs) (areDigits 10 ys)
+
+two-more : (v : ℕ) (xs : List ℕ) (c d : ℕ) → valueFrom 10 v (map digitOf (xs ++ (c ∷ d ∷ []))) ≡ (valueFrom 10 v (map digitOf xs) * 10 + digitOf c) * 10 + digitOf d
+two-more v [] c d = refl
+two-more v (x ∷ xs) c d = two-more (v * 10 + digitOf x) xs c d
+
+banded : (t : Bool) (n : ℕ) → atLeast 1070000 (cond (t && leb n 1275000) (Value n) Nothing) ≡ cond t (inBand n) Nothing
+banded true n =
+    by-test (λ h. atLeast 1070000 (cond h (Value n) Nothing) ≡ cond (leb 1070000 n && h) (Value n) Nothing) (leb n 1275000)
+    (λ _. rw (and-true (leb 1070000 n)))
+    (λ _. rw (and-false (leb 1070000 n)))
+banded false n = refl
+
+by-parts : (t u : Bool) (m h : ℕ) → frequencyFrom (cond t (Value m) Nothing) (cond u (Value h) Nothing) ≡ cond (t && u) (inBand (m * 100 + h)) Nothing
+by-parts true true m h = refl
+by-parts true false m h = refl
+by-parts false u m h = refl
+
+no-hundredths : (r : Read) → frequencyFrom r Nothing ≡ Nothing
+no-hundredths (Value m) = refl
+no-hundredths Nothing = refl
+
+ten-if : (t : Bool) (v : ℕ) → tenfold (cond t (Value v) Nothing) ≡ cond t (Value (v * 10)) Nothing
+ten-if true v = refl
+ten-if false v = refl
+
+abbrev seven : List ℕ → List ℕ → Read
+seven a t = atLeast 1070000 (readNumber Allowed 7 1275000 (a & take 2 (t & text "00")))
+
+-- five digits before the dot
+module _ (a : List ℕ) (e : length a ≡ 5) where
+  abbrev first-five : Read
+  first-five = readNumber Allowed 5 99999 a
+
+  five-is : first-five ≡ cond (areDigits 10 a) (Value (spelled 10 a)) Nothing
+  unfolding readNumber
+  five-is = all-digits 10 5 99999 a (omega arith) e (omega arith) (omega arith)
+
+  seven-is : (c d : ℕ) → atLeast 1070000 (readNumber Allowed 7 1275000 (a ++ (c ∷ d ∷ []))) ≡ cond (areDigits 10 a && areDigits 10 (c ∷ d ∷ [])) (inBand (spelled 10 a * 100 + spelled 10 (c ∷ d ∷ []))) Nothing
+  unfolding readNumber
+  seven-is c d =
+      let l : length (a ++ (c ∷ d ∷ [])) ≡ 7 = length-append a (c ∷ d ∷ []) ∙ ap (λ n. n + 2) e in
+      let v : spelled 10 (a ++ (c ∷ d ∷ [])) ≡ spelled 10 a * 100 + spelled 10 (c ∷ d ∷ []) = omega (arith, two-more 0 a c d) in
+      rw (l, digits-both a (c ∷ d ∷ []), v) (banded (areDigits 10 a && areDigits 10 (c ∷ d ∷ [])) (spelled 10 a * 100 + spelled 10 (c ∷ d ∷ [])))
+
+  with-two : (c d : ℕ) {r : Read} → r ≡ cond (areDigits 10 (c ∷ d ∷ [])) (Value (spelled 10 (c ∷ d ∷ []))) Nothing → frequencyFrom first-five r ≡ atLeast 1070000 (readNumber Allowed 7 1275000 (a ++ (c ∷ d ∷ [])))
+  with-two c d q = ap₂ frequencyFrom five-is q ∙ by-parts (areDigits 10 a) (areDigits 10 (c ∷ d ∷ [])) (spelled 10 a) (spelled 10 (c ∷ d ∷ [])) ∙ sym (seven-is c d)
+
+  tenths-is : (c : ℕ) → fraction (c ∷ []) ≡ cond (areDigits 10 (c ∷ 48 ∷ [])) (Value (spelled 10 (c ∷ 48 ∷ []))) Nothing
+  unfolding readNumber
+  tenths-is c =
+      let v : spelled 10 (c ∷ []) * 10 ≡ spelled 10 (c ∷ 48 ∷ []) = omega arith in
+      ap tenfold (all-digits 10 1 9 (c ∷ []) (omega arith) refl (omega arith) (omega arith)) ∙ ten-if (areDigits 10 (c ∷ [])) (spelled 10 (c ∷ []))
+      ∙ ap (λ n. cond (areDigits 10 (c ∷ [])) (Value n) Nothing) v
+
+  hundredths-is : (c d : ℕ) → fraction (c ∷ d ∷ []) ≡ cond (areDigits 10 (c ∷ d ∷ [])) (Value (spelled 10 (c ∷ d ∷ []))) Nothing
+  unfolding readNumber
+  hundredths-is c d = all-digits 10 2 99 (c ∷ d ∷ []) (omega arith) refl (omega arith) (omega arith)
+
+  by-rest : (t : List ℕ) → frequencyFrom first-five (fraction t) ≡ cond (isBetween 1 2 (length t)) (seven a t) Nothing
+  by-rest [] = no-hundredths first-five
+  by-rest (c ∷ []) = with-two c 48 (tenths-is c)
+  by-rest (c ∷ d ∷ []) = with-two c d (hundredths-is c d)
+  by-rest (c ∷ d ∷ g ∷ t) =
+      let n : ℕ = length (c ∷ d ∷ g ∷ t) in
+      rw (ne-eqb n 1 (λ q. omega arith), ne-eqb n 2 (λ q. omega arith), lt-leb n 2 (omega arith), and-false (leb 1 n)) (no-hundredths first-five)
+
+pub frequency-by : (xs : List ℕ) → frequencyFrom (megahertz xs) (hundredths xs) ≡ frequency xs
+unfolding frequency
+frequency-by xs =
+    rw before-dot
+    (by-test (λ t. eqb (dot xs) 5 ≡ t → frequencyFrom (cond t (readNumber Allowed 5 99999 (before 46 xs)) Nothing) (hundredths xs) ≡ cond (t && (not (has 46 xs) || isBetween 1 2 (length (after 46 xs)))) (seven (before 46 xs) (after 46 xs)) Nothing)
+    (eqb (dot xs) 5) (λ _ y. five (before-dot ∙ eqb-true (dot xs) 5 y)) (λ _ _. refl) refl)
+  where
+    before-dot : length (before 46 xs) ≡ dot xs
+    before-dot = part-length 0 (dot xs) xs (first-within (is 46) xs) ∙ sub-zero (dot xs)
+
+    five : length (before 46 xs) ≡ 5 → frequencyFrom (readNumber Allowed 5 99999 (before 46 xs)) (hundredths xs) ≡ cond (not (has 46 xs) || isBetween 1 2 (length (after 46 xs))) (seven (before 46 xs) (after 46 xs)) Nothing
+    five e =
+        by-test (λ t. has 46 xs ≡ t → frequencyFrom (readNumber Allowed 5 99999 (before 46 xs)) (cond t (fraction (after 46 xs)) (Value 0)) ≡ cond (not t || isBetween 1 2 (length (after 46 xs))) (seven (before 46 xs) (after 46 xs)) Nothing)
+        (has 46 xs) (λ _ _. by-rest (before 46 xs) e (after 46 xs))
+        (λ _ n. rw (drop-of-length-le xs {i = dot xs + 1} (omega (arith, ltb-false (dot xs) (length xs) n))) (with-two (before 46 xs) e 48 48 refl))
+        refl

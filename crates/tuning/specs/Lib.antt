@@ -1,4 +1,3 @@
-pub mod Attributes
 pub mod Values
 pub mod Found
 pub mod Samples

@@ -6,8 +6,7 @@ use Rattle.scan.specs.Words.{placeAmong}
 use Rattle.digits.specs.Reading.{readNumber}
 use Rattle.digits.specs.declared.Read.{Read}
 use Rattle.digits.specs.declared.Read.the-variants.{Value, Nothing}
-use Rattle.tuning.specs.Attributes.{attributeOf}
-use Rattle.tuning.specs.Values.{frequency, arePids, valueOf}
+use Rattle.tuning.specs.Values.{attributeOf, frequency, arePids, valueOf}
 
 -- the code of an attribute's value, both as they are written, on a box with two frontends
 abbrev code : String → String → Read

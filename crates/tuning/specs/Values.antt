@@ -1,12 +1,12 @@
--- Document 01's table of values: what a stream keeps of an attribute's text, as a code that is never 0. Assumes nothing.
-use Prim.Native.Nat.{ℕ, _+_, _*_}
-use mathlib.Core.Bool.{Bool, cond}
+-- Document 01's table of attributes, and what a stream keeps of a value's text: a code that is never 0. Assumes nothing.
+use Prim.Native.Nat.{ℕ, _+_}
+use mathlib.Core.Bool.{Bool, cond, not, _||_, _&&_}
 use mathlib.Core.List.{List}
 use lib.Dec.{ltb, eqb}
-use lib.ListN.{length}
-use Rattle.scan.specs.Text.{text}
-use Rattle.scan.specs.Lists.{all, first, _gives_or_}
-use Rattle.scan.specs.Cut.{is, cut, before, after, has}
+use lib.ListN.{length, take}
+use Rattle.scan.specs.Text.{text, _&_}
+use Rattle.scan.specs.Lists.{all, _gives_or_}
+use Rattle.scan.specs.Cut.{cut, before, after, has}
 use Rattle.scan.specs.Words.{placeAmong}
 use Rattle.scan.specs.declared.Case.the-variants.{Counts}
 use Rattle.digits.specs.Reading.{readNumber, atLeast, isValue}
@@ -14,6 +14,10 @@ use Rattle.digits.specs.declared.Read.{Read}
 use Rattle.digits.specs.declared.Read.the-variants.{Value, Nothing}
 use Rattle.digits.specs.declared.Zeros.the-variants.{Allowed}
 use Rattle.scan.specs.Classes.{isBetween}
+
+-- an attribute by its name, whose case counts: its place in the table, from 0 on; 13 for a name that is none of them
+unfoldable pub attributeOf : List ℕ → ℕ
+attributeOf name = placeAmong Counts (text "src fe freq pol msys mtype plts ro sr fec pids addpids delpids") name
 
 -- "Plain numbers are 1 to 5 digits, leading zeros allowed."
 abbrev pub plain : ℕ → ℕ → List ℕ → Read
@@ -23,31 +27,13 @@ plain least most xs = atLeast least (readNumber Allowed 5 most xs)
 abbrev pub word : List ℕ → List ℕ → Read
 word words xs = cond (ltb (placeAmong Counts words xs) (length (cut 32 words))) (Value (placeAmong Counts words xs + 1)) Nothing
 
--- "five digits of MHz": what stands before a dot
-abbrev pub megahertz : List ℕ → Read
-megahertz xs = cond (eqb (first (is 46) xs) 5) (readNumber Allowed 5 99999 (before 46 xs)) Nothing
+-- "five digits of MHz, optionally a dot and one or two digits"
+abbrev pub isMegahertz : List ℕ → Bool
+isMegahertz xs = eqb (length (before 46 xs)) 5 && (not (has 46 xs) || isBetween 1 2 (length (after 46 xs)))
 
--- ten times what was read
-abbrev pub tenfold : Read → Read
-tenfold (Value v) = Value (v * 10)
-tenfold Nothing = Nothing
-
--- "one or two digits" of tenths and hundredths
-abbrev pub fraction : List ℕ → Read
-fraction xs = cond (eqb (length xs) 1) (tenfold (readNumber Allowed 1 9 xs)) (cond (eqb (length xs) 2) (readNumber Allowed 2 99 xs) Nothing)
-
--- "optionally a dot and" such digits: none without a dot
-abbrev pub hundredths : List ℕ → Read
-hundredths xs = cond (has 46 xs) (fraction (after 46 xs)) (Value 0)
-
--- "10700 to 12750, kept in hundredths"
-abbrev pub frequencyFrom : Read → Read → Read
-frequencyFrom (Value m) (Value h) = cond (isBetween 1070000 1275000 (m * 100 + h)) (Value (m * 100 + h)) Nothing
-frequencyFrom (Value m) Nothing = Nothing
-frequencyFrom Nothing h = Nothing
-
+-- "10700 to 12750, kept in hundredths": those seven digits, with zeros for what is left out
 unfoldable pub frequency : List ℕ → Read
-frequency xs = frequencyFrom (megahertz xs) (hundredths xs)
+frequency xs = cond (isMegahertz xs) (atLeast 1070000 (readNumber Allowed 7 1275000 (before 46 xs & take 2 (after 46 xs & text "00")))) Nothing
 
 -- "numbers 0 to 8191 joined by commas": any number of them
 unfoldable pub arePids : List ℕ → Bool

@@ -13,7 +13,6 @@ use lib.Seq.{sets}
 use borrow.Author.Tests.{le-leb, lt-leb, lt-ltb, le-ltb, ne-eqb}
 use Rattle.scan.proofs.Bools.{by-cases}
 use Rattle.scan.specs.Text.{text, _&_}
-use Rattle.scan.specs.Cut.{joined}
 use Rattle.digits.specs.Positional.{digitsIn, valueIn}
 use Rattle.digits.specs.Reading.{digitOf, areDigits, spelled, readIn, hasLeadingZero, readNumber, readHex8}
 use Rattle.writing.specs.Writing.{shown, numeral, widthIn, width, decimal, hex8, dotted, written}
@@ -21,7 +20,7 @@ use Rattle.writing.specs.Wrote.{Wrote}
 use Rattle.digits.specs.declared.Zeros.{Zeros}
 use Rattle.digits.specs.declared.Zeros.the-variants.{Allowed, Refused}
 use Rattle.digits.specs.declared.Read.the-variants.{Value}
-use Rattle.digits.proofs.Positions.{digits-length, value-digits, octets}
+use Rattle.digits.proofs.Positions.{digits-length, value-digits}
 use Rattle.digits.proofs.Spelling.{hex-limit}
 use Rattle.writing.proofs.Writes.{written-sets, sets-last}
 
@@ -241,10 +240,10 @@ pub wrote-hex8 : {b d : List ℕ} {at next : ℕ} (v : ℕ) → Wrote b at (nume
 unfolding hex8
 wrote-hex8 v w = w
 
-pub dotted-octets : (a : ℕ) → a < 4294967296
+pub dotted-octets : (a : ℕ)
     → dotted a ≡ decimal (a / 16777216) & text "." & decimal (a / 65536 % 256) & text "." & decimal (a / 256 % 256) & text "." & decimal (a % 256)
 unfolding dotted
-dotted-octets a h = ap (λ l. joined 46 (map decimal l)) (octets a h)
+dotted-octets a = refl
 
 -- an address takes at most 15 bytes
 pub dotted-length : (a : ℕ) → a < 4294967296 → length (dotted a) ≤ 15
@@ -253,4 +252,4 @@ dotted-length a h =
     let q = decimal-length 2 (a / 65536 % 256) (omega arith) in
     let r = decimal-length 2 (a / 256 % 256) (omega arith) in
     let s = decimal-length 2 (a % 256) (omega arith) in
-    rw (dotted-octets a h) (simp length-append (omega arith))
+    rw (dotted-octets a) (simp length-append (omega arith))

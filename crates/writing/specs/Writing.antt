@@ -1,11 +1,11 @@
 -- Numbers as text, and a text in a lent buffer. Assumes nothing.
-use Prim.Native.Nat.{ℕ, zero, suc, _+_, _/_, _-_}
+use Prim.Native.Nat.{ℕ, zero, suc, _+_, _/_, _-_, _%_}
 use mathlib.Core.Bool.{cond}
 use mathlib.Core.List.{List, map, _++_}
 use lib.Dec.{ltb}
-use Rattle.scan.specs.Cut.{joined}
 use Rattle.digits.specs.Positional.{digitsIn}
 use lib.ListN.{length, take, drop}
+use Rattle.scan.specs.Text.{text, _&_}
 
 -- the byte that shows a digit: 0 to 9, then A to F
 abbrev pub shown : ℕ → ℕ
@@ -32,9 +32,9 @@ decimal v = numeral 10 (width v) v
 unfoldable pub hex8 : ℕ → List ℕ
 hex8 v = numeral 16 8 v
 
--- "dotted address": its four octets in decimal, the highest first, with dots between them
+-- "dotted address": its four octets, the highest first
 unfoldable pub dotted : ℕ → List ℕ
-dotted a = joined 46 (map decimal (digitsIn 256 4 a))
+dotted a = decimal (a / 16777216) & text "." & decimal (a / 65536 % 256) & text "." & decimal (a / 256 % 256) & text "." & decimal (a % 256)
 
 -- the buffer b with the text t from place `at` on, as far as b reaches; before the text and after it b is as it was
 unfoldable pub written : List ℕ → ℕ → List ℕ → List ℕ

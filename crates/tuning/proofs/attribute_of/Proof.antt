@@ -5,7 +5,8 @@ use borrow.Author.Needs.{needs}
 use Rattle.scan.specs.Text.{text}
 use Rattle.scan.specs.declared.Case.the-variants.{Counts}
 use Rattle.scan.proofs.Places.{miss, miss-long, none, place-alike, place-none}
-use Rattle.tuning.specs.Attributes.{names, attributeOf}
+use Rattle.tuning.specs.Values.{attributeOf}
+use Rattle.tuning.specs.Found.{names}
 use Rattle.tuning.proofs.attribute_of.Statement.{statement}
 use Rattle.tuning.proofs.attribute_of.Tie as tie
 

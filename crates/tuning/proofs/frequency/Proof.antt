@@ -1,8 +1,9 @@
 -- `tuning::frequency` meets its contract. Assumes nothing.
 use native.Mathlib.Omega.{arith}
 use borrow.Author.Needs.{needs}
-use Rattle.tuning.specs.Values.{frequency}
-use Rattle.tuning.proofs.Frequencies.{megahertz-small, hundredths-small, frequency-whole, frequency-half, frequency-none}
+use mathlib.Core.Path.{_∙_}
+use Rattle.tuning.specs.Found.{hundredths}
+use Rattle.tuning.proofs.Frequencies.{megahertz-small, hundredths-small, frequency-whole, frequency-half, frequency-none, frequency-by}
 use Rattle.tuning.proofs.frequency.Statement.{statement}
 use Rattle.tuning.proofs.frequency.Tie as tie
 
@@ -23,21 +24,20 @@ add-in-band c =
     )
 
 returns : tie.Need-returns
-unfolding frequency
 returns c =
     let w = c .before .before .before .before .before in
     frequency-whole _ _ (w .before .before .before .megahertz .ensures) (w .before .before .hundredths .ensures) (w .whole .given .1)
     (c .before .before .rest .given .1) (c .in-band .ensures)
+    ∙ frequency-by _
 
 returns-2 : tie.Need-returns-2
-unfolding frequency
 returns-2 c =
     let w = c .before .before .before in
     frequency-half _ _ (w .before .before .before .megahertz .ensures) (w .before .before .hundredths .ensures) (w .whole .given .1) (c .enum-told .given .1)
+    ∙ frequency-by _
 
 returns-3 : tie.Need-returns-3
-unfolding frequency
-returns-3 c = frequency-none _ _ (c .before .before .before .megahertz .ensures) (c .enum-told2 .given .1)
+returns-3 c = frequency-none _ (hundredths (c .before .before .before .before .before .before .args .s .now)) (c .before .before .before .megahertz .ensures) (c .enum-told2 .given .1) ∙ frequency-by _
 
 pub frequency-spec : {M : Type 1} → statement M
 frequency-spec =

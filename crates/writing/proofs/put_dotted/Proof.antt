@@ -15,7 +15,7 @@ returns c =
     let c2 = c3 .before .before .before .before in
     let c1 = c2 .before .before .before .before .before in
     let start = c1 .before .before .before in
-    rw (dotted-octets (start .args .address) (start .fits .address .fits))
+    rw (dotted-octets (start .args .address))
     (c1 .put-decimal .ensures
     then c2 .put .ensures
     then c3 .put-decimal2 .ensures
