@@ -10,7 +10,7 @@
  * of their numbers; the lowest is returned. Any bytes in the box, the buffers and the request are judged, none are trusted.
  *
  * What the caller owes, for every call; no call can test it:
- *   - box is not NULL, is aligned as struct satbox is (4), and all its 1,488 bytes are initialized and writable. A call may write every
+ *   - box is not NULL, is aligned as struct satbox is (4), and all its 1,492 bytes are initialized and writable. A call may write every
  *     one of them, also where the value stays: satbox_order too, and a refused call too.
  *   - each other pointer is valid for the length beside it; with length 0 it may be NULL.
  *   - box, request, answer, journal and buffer do not overlap.
@@ -126,15 +126,22 @@ struct satbox_stream {
     uint8_t all;                        /* 1: every PID, 0: those of the list */
 };
 
+/* What is fixed when a box is made; no other call changes it. */
+struct satbox_settings {
+    uint32_t size;                      /* C */
+    uint16_t frontends;                 /* F */
+    uint16_t spare;                     /* fills the struct; no call looks at it */
+};
+
 /* The box. The firmware may read each field between two calls; only the calls write them. Integers are in the machine's byte order. */
 struct satbox {
     struct satbox_session sessions[SATBOX_SESSIONS];
     struct satbox_stream streams[SATBOX_STREAMS];
-    uint32_t size;                      /* C */
+    struct satbox_settings settings;
     uint32_t held;                      /* bytes held: journal[0] to journal[held - 1] are records not yet collected */
     uint32_t clock;                     /* the largest clock that any call was given and did not refuse */
     uint16_t sequence;                  /* the sequence number of the next record */
-    uint16_t frontends;                 /* F */
+    uint16_t spare;                     /* fills the struct; no call looks at it */
 };
 
 /* One record's fields. The bytes of a record are others: see satbox_write_record. */
@@ -268,14 +275,18 @@ SATBOX_AT(satbox_stream, fec, 96);
 SATBOX_AT(satbox_stream, count, 100);
 SATBOX_AT(satbox_stream, frontend, 102);
 SATBOX_AT(satbox_stream, all, 103);
-SATBOX_IS(box_size, sizeof(struct satbox), 1488);
+SATBOX_IS(settings_size, sizeof(struct satbox_settings), 8);
+SATBOX_AT(satbox_settings, size, 0);
+SATBOX_AT(satbox_settings, frontends, 4);
+SATBOX_AT(satbox_settings, spare, 6);
+SATBOX_IS(box_size, sizeof(struct satbox), 1492);
 SATBOX_AT(satbox, sessions, 0);
 SATBOX_AT(satbox, streams, 640);
-SATBOX_AT(satbox, size, 1472);
-SATBOX_AT(satbox, held, 1476);
-SATBOX_AT(satbox, clock, 1480);
-SATBOX_AT(satbox, sequence, 1484);
-SATBOX_AT(satbox, frontends, 1486);
+SATBOX_AT(satbox, settings, 1472);
+SATBOX_AT(satbox, held, 1480);
+SATBOX_AT(satbox, clock, 1484);
+SATBOX_AT(satbox, sequence, 1488);
+SATBOX_AT(satbox, spare, 1490);
 SATBOX_IS(record_size, sizeof(struct satbox_record), 16);
 SATBOX_AT(satbox_record, kind, 0);
 SATBOX_AT(satbox_record, cause, 1);

@@ -275,9 +275,8 @@ static const char *stream_field(size_t offset)
 
 static const char *box_field(size_t offset)
 {
-    static const char *const names[] = {"size", "held", "clock"};
-    size_t inside = offset - offsetof(struct plain_box, size);
-    return inside < 12 ? names[inside / 4] : inside < 14 ? "sequence" : "frontends";
+    static const char *const names[] = {"size", "size", "frontends", "spare (settings)", "held", "held", "clock", "clock", "sequence", "spare"};
+    return names[(offset - offsetof(struct plain_box, settings)) / 2];
 }
 
 static void tell_table(size_t at)
@@ -288,7 +287,7 @@ static void tell_table(size_t at)
     if (at < offsetof(struct plain_box, streams))
         printf("sessions[%zu].%s\n", at / sizeof(struct plain_session),
                session_field(at % sizeof(struct plain_session)));
-    else if (at < offsetof(struct plain_box, size))
+    else if (at < offsetof(struct plain_box, settings))
         printf("streams[%zu].%s\n", stream / sizeof(struct plain_stream),
                stream_field(stream % sizeof(struct plain_stream)));
     else

@@ -105,7 +105,7 @@ uint32_t some_address(void)
 /* The journal's length: C, mostly, and never more than there is. */
 static uint64_t some_journal(const struct plain_box *box)
 {
-    uint64_t length = box->size;
+    uint64_t length = box->settings.size;
     if (once_in(80))
         length = ANY_OF(0, length - 1, length + 1, length - 16, length + 16, 1024, 65536);
     return length > JOURNAL_ROOM ? JOURNAL_ROOM : length;
@@ -120,7 +120,7 @@ static uint64_t some_buffer(const struct plain_box *box)
 {
     uint64_t length = box->held;
     if (once_in(2))
-        length = ANY_OF(0, length - 1, length - 16, length + 1, length + 16, box->size, JOURNAL_ROOM);
+        length = ANY_OF(0, length - 1, length - 16, length + 1, length + 16, box->settings.size, JOURNAL_ROOM);
     return length > JOURNAL_ROOM ? JOURNAL_ROOM : length;
 }
 
@@ -147,7 +147,7 @@ static void choose_request(struct call *call, const struct plain_box *box)
 /* Reads a record of the journal: mostly one that is there. */
 static void choose_read(struct call *call, const struct plain_box *box)
 {
-    uint64_t length = box->size > JOURNAL_ROOM ? JOURNAL_ROOM : box->size;
+    uint64_t length = box->settings.size > JOURNAL_ROOM ? JOURNAL_ROOM : box->settings.size;
     uint64_t place = below(length / PLAIN_RECORD_BYTES);
     if (once_in(8))
         length = ANY_OF(0, 1, 15, 16, 17, length - 1, length - 16);
@@ -216,8 +216,8 @@ static void choose_call(struct call *call, const struct plain_box *box)
     else if (at < 80 && !(mood == CROWD && once_in(2)))
         set_call(call, COLLECT, some_journal(box), some_buffer(box));
     else if (at < 90)
-        set_call(call, ORDER, once_in(12) ? ANY_OF(0, box->frontends + 1u, 8, 9, UINT32_MAX, 256 + 1)
-                                         : 1 + below(box->frontends), 0);
+        set_call(call, ORDER, once_in(12) ? ANY_OF(0, box->settings.frontends + 1u, 8, 9, UINT32_MAX, 256 + 1)
+                                         : 1 + below(box->settings.frontends), 0);
     else if (at < 94)
         choose_read(call, box);
     else if (at < 97)

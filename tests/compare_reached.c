@@ -42,7 +42,7 @@ static void count_status(const struct call *call)
         return;
     reached.no_place += open == PLAIN_SESSIONS;
     reached.no_room += open < PLAIN_SESSIONS
-        && plain.box.held + PLAIN_RECORD_BYTES * (open + 2) > plain.box.size;
+        && plain.box.held + PLAIN_RECORD_BYTES * (open + 2) > plain.box.settings.size;
 }
 
 /* Counts the records the call wrote. */
@@ -60,7 +60,7 @@ static void count_records(const struct call *call)
         cascade |= record.cause == 3;
     }
     reached.cascades += cascade;
-    reached.full_journals += plain.box.held > held_before && plain.box.held == plain.box.size;
+    reached.full_journals += plain.box.held > held_before && plain.box.held == plain.box.settings.size;
 }
 
 void count_reached(const struct call *call)

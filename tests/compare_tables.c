@@ -41,10 +41,12 @@ static const struct field in_stream[] = {
 
 static const struct field in_box[] = {
     {0, 4, 9, {0, 1008, 1024, 1032, 1040, 65520, 65536, 65552, 66560}},  /* size */
-    {4, 4, 6, {0, 8, 16, 1024, 0xFFFFFFF0, 0x80000000}},               /* held */
-    {8, 4, 5, {0, 59, 60, UINT32_MAX, UINT32_MAX - 60}},               /* clock */
-    {12, 2, 3, {0, 65534, 65535}},                                     /* sequence */
-    {14, 2, 10, {0, 1, 2, 3, 7, 8, 9, 256, 257, 65535}}                /* frontends */
+    {4, 2, 10, {0, 1, 2, 3, 7, 8, 9, 256, 257, 65535}},                /* frontends */
+    {6, 2, 3, {0, 1, 65535}},                                          /* spare */
+    {8, 4, 6, {0, 8, 16, 1024, 0xFFFFFFF0, 0x80000000}},               /* held */
+    {12, 4, 5, {0, 59, 60, UINT32_MAX, UINT32_MAX - 60}},              /* clock */
+    {16, 2, 3, {0, 65534, 65535}},                                     /* sequence */
+    {18, 2, 3, {0, 1, 65535}}                                          /* spare */
 };
 
 static const uint8_t *bytes_of(const struct plain_box *box)
@@ -93,7 +95,7 @@ static struct field some_field(const struct plain_box *box)
         field.offset += offsetof(struct plain_box, streams) + place * sizeof(struct plain_stream);
     } else {
         field = in_box[below(sizeof in_box / sizeof *in_box)];
-        field.offset += offsetof(struct plain_box, size);
+        field.offset += offsetof(struct plain_box, settings);
     }
     return field;
 }
@@ -115,7 +117,7 @@ static uint64_t new_value(const struct field *field, uint64_t old, uint64_t next
 static size_t neighbour(size_t offset)
 {
     size_t step = offset < offsetof(struct plain_box, streams) ? sizeof(struct plain_session)
-                : offset < offsetof(struct plain_box, size) ? (once_in(2) ? sizeof(struct plain_stream) : 2) : 4;
+                : offset < offsetof(struct plain_box, settings) ? (once_in(2) ? sizeof(struct plain_stream) : 2) : 4;
     return offset + step + 4 <= sizeof(struct plain_box) ? offset + step : offset;
 }
 
@@ -137,7 +139,7 @@ static void poke_held(struct call *call, const struct plain_box *box)
     uint32_t open = 0, held;
     for (size_t i = 0; i < PLAIN_SESSIONS; i++)
         open += box->sessions[i].number != 0;
-    held = box->size - PLAIN_RECORD_BYTES * (open - 2 + (uint32_t)below(5));
+    held = box->settings.size - PLAIN_RECORD_BYTES * (open - 2 + (uint32_t)below(5));
     set_call(call, POKE, offsetof(struct plain_box, held), 0);
     call->length = sizeof held;
     memcpy(call->bytes, &held, sizeof held);
@@ -243,11 +245,11 @@ static void poke_made_up(struct call *call, const struct plain_box *old)
     struct plain_box box;
     uint32_t open = 0;
     memset(&box, 0, sizeof box);
-    box.frontends = (uint16_t)(1 + below(8));
-    box.size = once_in(2) ? old->size : (uint32_t)(1024 + 16 * below(16));
+    box.settings.frontends = (uint16_t)(1 + below(8));
+    box.settings.size = once_in(2) ? old->settings.size : (uint32_t)(1024 + 16 * below(16));
     box.clock = once_in(8) ? (uint32_t)ANY_OF(0, 30, 60, UINT32_MAX, UINT32_MAX - 30) : old->clock;
     box.sequence = (uint16_t)(once_in(2) ? ANY_OF(0, 65535, 65534, 65530) : chance());
-    for (size_t frontend = 1; frontend <= box.frontends; frontend++) {
+    for (size_t frontend = 1; frontend <= box.settings.frontends; frontend++) {
         size_t place = below(PLAIN_STREAMS);
         if (box.streams[place].frontend == 0 && !once_in(4))
             make_up_stream(&box.streams[place], frontend);
@@ -255,7 +257,7 @@ static void poke_made_up(struct call *call, const struct plain_box *old)
     make_up_sessions(&box);
     for (size_t i = 0; i < PLAIN_SESSIONS; i++)
         open += box.sessions[i].number != 0;
-    uint32_t most = (box.size - PLAIN_RECORD_BYTES * open) / PLAIN_RECORD_BYTES;
+    uint32_t most = (box.settings.size - PLAIN_RECORD_BYTES * open) / PLAIN_RECORD_BYTES;
     box.held = PLAIN_RECORD_BYTES * (uint32_t)(once_in(3) ? most - below(3) : once_in(20) ? most + 1 : below(most + 1));
     set_call(call, POKE, 0, 0);
     call->length = sizeof box;

@@ -80,7 +80,7 @@ static void put_fe(void)
     if (once_in(6))
         put(ANY("1", "02", "00003", "8", "9", "0"));
     else
-        put_number(1 + below(table->frontends + (once_in(8) ? 1u : 0u)));
+        put_number(1 + below(table->settings.frontends + (once_in(8) ? 1u : 0u)));
 }
 
 enum { SRC, FE, FREQ, POL, MSYS, MTYPE, PLTS, RO, SR, FEC, PIDS, ADDPIDS, DELPIDS, NAMES };

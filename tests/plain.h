@@ -70,15 +70,22 @@ struct plain_stream {
     uint8_t all;                 /* 1: pids=all, 0: the list counts */
 };
 
+/* What is fixed when a box is made. */
+struct plain_settings {
+    uint32_t size;       /* journal size C */
+    uint16_t frontends;  /* F */
+    uint16_t spare;      /* fills the struct: any value, which stays */
+};
+
 /* The table. Any bytes may stand here: each call judges them first. */
 struct plain_box {
     struct plain_session sessions[PLAIN_SESSIONS];
     struct plain_stream streams[PLAIN_STREAMS];
-    uint32_t size;       /* journal size C */
+    struct plain_settings settings;
     uint32_t held;       /* bytes held in the journal */
     uint32_t clock;      /* the stored clock in seconds */
     uint16_t sequence;   /* sequence of the next record */
-    uint16_t frontends;  /* F */
+    uint16_t spare;      /* fills the struct: any value, which stays */
 };
 
 /* One journal record's fields. (Two bytes of padding follow the cause; they mean nothing.) */
@@ -95,7 +102,8 @@ struct plain_record {
 _Static_assert(sizeof(struct plain_session) == 20, "a session has no padding");
 _Static_assert(sizeof(struct plain_values) == 36, "values have no padding");
 _Static_assert(sizeof(struct plain_stream) == 104, "a stream has no padding");
-_Static_assert(sizeof(struct plain_box) == 1488, "a box has no padding");
+_Static_assert(sizeof(struct plain_settings) == 8, "settings have no padding");
+_Static_assert(sizeof(struct plain_box) == 1492, "a box has no padding");
 _Static_assert(sizeof(struct plain_record) == 16, "a record has its two bytes of padding only");
 
 /* Makes a fresh box. Refusal 6, and then the box stays. */

@@ -15,7 +15,7 @@ uint32_t now, address, draw;
 
 uint8_t *journal(void)
 {
-    return journal_room + sizeof journal_room - box.size;
+    return journal_room + sizeof journal_room - box.settings.size;
 }
 
 void fresh(uint32_t frontends, uint32_t size)
@@ -66,7 +66,7 @@ static bool records_follow(const struct plain_box *before)
     for (uint32_t at = before->held; at < box.held; at += PLAIN_RECORD_BYTES) {
         struct plain_record record;
         uint32_t written = (at - before->held) / PLAIN_RECORD_BYTES;
-        if (plain_read_record(journal(), box.size, at / PLAIN_RECORD_BYTES, &record) != 0)
+        if (plain_read_record(journal(), box.settings.size, at / PLAIN_RECORD_BYTES, &record) != 0)
             return false;
         if (record.clock != box.clock || record.sequence != (uint16_t)(before->sequence + written))
             return false;
@@ -83,9 +83,9 @@ static void check_kept(const struct plain_box *before, const uint8_t *journal_be
     uint32_t clock = now > before->clock ? now : before->clock;
     check(well_formed(), "the table stays well formed");
     check(box.clock == clock, "the larger clock is stored");
-    check(box.frontends == before->frontends && box.size == before->size, "F and C stay");
+    check(box.settings.frontends == before->settings.frontends && box.settings.size == before->settings.size, "F and C stay");
     check(box.held >= before->held && memcmp(journal(), journal_before, before->held) == 0
-              && memcmp(journal() + box.held, journal_before + box.held, box.size - box.held) == 0,
+              && memcmp(journal() + box.held, journal_before + box.held, box.settings.size - box.held) == 0,
           "the journal stays below the bytes held and above the new records");
     check(records_follow(before), "the records tell what changed");
 }
@@ -96,10 +96,10 @@ int send_bytes(const void *bytes, size_t length)
     struct plain_box before = box;
     uint8_t *request = room + sizeof room - length;
     memcpy(request, bytes, length);
-    memcpy(journal_before, journal(), box.size);
+    memcpy(journal_before, journal(), box.settings.size);
     memset(answer, FILL, sizeof answer);
     check(plain_request(&box, request, length, now, address, draw, answer, sizeof answer, &answer_count,
-                        journal(), box.size) == 0, "a good call is not refused");
+                        journal(), box.settings.size) == 0, "a good call is not refused");
     check_kept(&before, journal_before);
     check(answer_count >= 20 && memcmp(answer, "RTSP/1.0 ", 9) == 0
               && memcmp(answer + answer_count - 4, "\r\n\r\n", 4) == 0, "the answer is one");
@@ -147,16 +147,16 @@ void tick(uint32_t time)
 {
     static uint8_t journal_before[PLAIN_JOURNAL_MOST];
     struct plain_box before = box;
-    memcpy(journal_before, journal(), box.size);
+    memcpy(journal_before, journal(), box.settings.size);
     now = time;
-    check(plain_tick(&box, now, journal(), box.size) == 0, "a good tick is not refused");
+    check(plain_tick(&box, now, journal(), box.settings.size) == 0, "a good tick is not refused");
     check_kept(&before, journal_before);
 }
 
 bool record_is(size_t place, int kind, int cause, uint32_t session, int stream, int frontend)
 {
     struct plain_record record;
-    return plain_read_record(journal(), box.size, place, &record) == 0 && record.kind == kind
+    return plain_read_record(journal(), box.settings.size, place, &record) == 0 && record.kind == kind
         && record.cause == cause && record.session == session && record.stream == stream
         && record.frontend == frontend;
 }

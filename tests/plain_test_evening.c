@@ -80,7 +80,7 @@ void test_evening(void)
         now = box.clock + (chance(5) == 0 ? chance(30) : 0) - (box.clock > 5 && chance(5) == 0 ? 5 : 0);
         draw = chance(4) == 0 ? UINT32_MAX - chance(3) : chance(40);
         if (chance(40) == 0)
-            check(plain_collect(&box, journal(), box.size, buffer, sizeof buffer, &count) == 0, "collecting");
+            check(plain_collect(&box, journal(), box.settings.size, buffer, sizeof buffer, &count) == 0, "collecting");
         if (chance(20) == 0)
             tick(now);
         size_t length = chance_request(request, sizeof request);

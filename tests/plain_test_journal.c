@@ -103,9 +103,9 @@ static void test_making(void)
                 CHECK(memcmp(&made, &before, sizeof made) == 0);
                 continue;
             }
-            CHECK(made.frontends == frontends && made.size == size);
-            made.frontends = 0;
-            made.size = 0;
+            CHECK(made.settings.frontends == frontends && made.settings.size == size);
+            made.settings.frontends = 0;
+            made.settings.size = 0;
             CHECK(is_zero(&made, sizeof made));
         }
     CHECK(plain_make(&made, 8, 65536) == 0);
@@ -141,7 +141,7 @@ static void test_lent_lengths(void)
     CHECK(plain_request(&box, request, 0, 9999, 0, 0, NULL, 0, &answer_count, journal(), 1024) == 3);
     CHECK(memcmp(&box, &before, sizeof box) == 0 && filled(answer, sizeof answer));
     CHECK(filled(journal_room, sizeof journal_room));
-    box.frontends = 0;
+    box.settings.frontends = 0;
     CHECK(plain_request(&box, request, 0, 0, 0, 0, NULL, 0, &answer_count, NULL, 0) == 1);
     CHECK(plain_tick(&box, 0, NULL, 0) == 1);
     CHECK(plain_collect(&box, NULL, 0, NULL, 0, &count) == 1);

@@ -54,19 +54,19 @@ static bool all_refuse(void)
 static void test_limits_well_formed(void)
 {
     WELL((void)0);
-    ILL(box.frontends = 0);
-    ILL(box.frontends = 9);
-    ILL(box.frontends = 0xFFFF);
-    ILL(box.frontends = 1);
-    WELL(box.frontends = 2);
-    WELL(box.frontends = 8);
-    ILL(box.size = 0);
-    ILL(box.size = 1008);
-    ILL(box.size = 1025);
-    ILL(box.size = 65552);
-    ILL(box.size = UINT32_MAX);
-    WELL(box.size = 1040);
-    WELL(box.size = 65536);
+    ILL(box.settings.frontends = 0);
+    ILL(box.settings.frontends = 9);
+    ILL(box.settings.frontends = 0xFFFF);
+    ILL(box.settings.frontends = 1);
+    WELL(box.settings.frontends = 2);
+    WELL(box.settings.frontends = 8);
+    ILL(box.settings.size = 0);
+    ILL(box.settings.size = 1008);
+    ILL(box.settings.size = 1025);
+    ILL(box.settings.size = 65552);
+    ILL(box.settings.size = UINT32_MAX);
+    WELL(box.settings.size = 1040);
+    WELL(box.settings.size = 65536);
     ILL(box.held = 8);
     ILL(box.held = UINT32_MAX - 15);
     WELL(box.held = 1024 - 48);

@@ -139,7 +139,7 @@ static uint32_t choose_frontend(const struct plain_box *box, uint32_t fe)
 {
     if (fe != 0)
         return frontend_held(box, fe) ? 0 : fe;
-    for (uint32_t frontend = 1; frontend <= box->frontends; frontend++)
+    for (uint32_t frontend = 1; frontend <= box->settings.frontends; frontend++)
         if (!frontend_held(box, frontend))
             return frontend;
     return 0;
@@ -214,7 +214,7 @@ static bool can_open(const struct turn *turn)
         return false;
     if (turn->stream == NULL && choose_frontend(box, turn->reading->fe) == 0)
         return false;
-    return box->held + PLAIN_RECORD_BYTES * (plain_count_open(box) + 2) <= box->size;
+    return box->held + PLAIN_RECORD_BYTES * (plain_count_open(box) + 2) <= box->settings.size;
 }
 
 /* Steps 10 to 18. */

@@ -6,7 +6,7 @@ use native.Mathlib.Omega.{arith}
 use lib.Dec.{ltb, leb}
 use borrow.Author.Tests.{ltb-true, lt-leb}
 use Rattle.scan.proofs.Bools.{by-test}
-use Rattle.table.specs.Made.{madeOf}
+use Rattle.table.specs.Made.{settingsOf, madeOf}
 use Rattle.table.specs.declared.Made.{Made}
 use Rattle.table.specs.declared.SatBox.{SatBox}
 use Rattle.table.specs.declared.Refusal.the-variants.{Table, Journal, Answer, Buffer, Frontend, Sizes}
@@ -15,14 +15,14 @@ use Rattle.table.specs.declared.Outcome.the-variants.{Done, Refused}
 use Rattle.satbox.specs.Calls.{ifDone}
 use Rattle.door.specs.Turns.{numberIn}
 
-made-few : (frontends size : ℕ) → madeOf (cond (ltb 65535 frontends) 0 frontends) size ≡ madeOf frontends size
+made-few : (frontends size : ℕ) → madeOf (settingsOf (cond (ltb 65535 frontends) 0 frontends) size) ≡ madeOf (settingsOf frontends size)
 unfolding madeOf
 made-few frontends size =
-    by-test (λ t. madeOf (cond t 0 frontends) size ≡ madeOf frontends size) (ltb 65535 frontends)
+    by-test (λ t. madeOf (settingsOf (cond t 0 frontends) size) ≡ madeOf (settingsOf frontends size)) (ltb 65535 frontends)
     (λ y. rw (lt-leb frontends 8 (omega (arith, ltb-true 65535 frontends y)), and-false (leb 1 frontends)))
     (λ n. refl)
 
-pub few-made : (frontends size : ℕ) {few : ℕ} {m : Made} → few ≡ cond (ltb 65535 frontends) 0 frontends → m ≡ madeOf few size → m ≡ madeOf frontends size
+pub few-made : (frontends size : ℕ) {few : ℕ} {m : Made} → few ≡ cond (ltb 65535 frontends) 0 frontends → m ≡ madeOf (settingsOf few size) → m ≡ madeOf (settingsOf frontends size)
 few-made frontends size e q = q ∙ (rw e (made-few frontends size))
 
 -- what was done has the number 0, and no refusal has

@@ -1,7 +1,6 @@
--- What C gets of a record that is read or written. Assumes nothing.
+-- What C gets of a record that is read or written: 7 or 8, or the record; 8, or the bytes. Assumes nothing.
 use Prim.Native.Nat.{ℕ}
-use mathlib.Core.List.{List}
-use Rattle.journal.specs.Calls.{numberOf, readAt, writeOf}
+use Rattle.journal.specs.Calls.{numberOf, writeOf}
 use Rattle.journal.specs.declared.Record.{Record}
 use Rattle.journal.specs.declared.Reading.{Reading}
 use Rattle.journal.specs.declared.Reading.the-variants.{Sound, Refused}
@@ -13,15 +12,10 @@ use Rattle.door.specs.declared.records.Noted.{Noted}
 abbrev pub noRecord : Record
 noRecord = record { kind = 0; cause = 0; clock = 0; session = 0; stream = 0; frontend = 0; sequence = 0 }
 
--- 7 or 8, or the record
 abbrev pub readFrom : Reading → Found
 readFrom (Sound r) = record { refusal = 0; entry = r }
 readFrom (Refused refusal) = record { refusal = numberOf refusal; entry = noRecord }
 
-abbrev pub readReply : List ℕ → ℕ → Found
-readReply bytes place = readFrom (readAt bytes place)
-
--- 8, or the bytes
 abbrev pub numberIn : Outcome → ℕ
 numberIn Done = 0
 numberIn (Unwritten refusal) = numberOf refusal

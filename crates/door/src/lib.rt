@@ -8,17 +8,21 @@ pub use records::Noted;
 pub use turns::Ordered;
 pub use turns::Reply;
 ghost use mathlib.Core.Path.{_≡_};
-ghost use Rattle.satbox.specs.Calls.{tickedJournal, collectedInto};
-ghost use Rattle.satbox.specs.Requests.{repliedInto, repliedJournal};
-ghost use Rattle.door.specs.Records.{readReply, writeReply};
-ghost use Rattle.door.specs.Turns.{made, madeNumber, requested, requestReply, ticked, tickNumber, collected, collectReply, orderReply};
+ghost use Rattle.table.specs.Made.{settingsOf, madeOf};
+ghost use Rattle.satbox.specs.Calls.{ifDone, ticked, tickedJournal, collected, collectedInto};
+ghost use Rattle.satbox.specs.Requests.{replied, repliedInto, repliedJournal};
+ghost use Rattle.orders.specs.Orders.{orderOf};
+ghost use Rattle.journal.specs.Calls.{readAt};
+ghost use Rattle.door.specs.Records.{readFrom, writeReply};
+ghost use Rattle.door.specs.Turns.{numberIn, replyOf, orderedAs};
 use journal::Record;
 use table::SatBox;
 
 // Makes a fresh box of the one that is lent; where that is refused, it stays.
 #[no_mangle]
 pub extern "C" fn satbox_make(t: &mut SatBox, frontends: u32, size: u32) -> u32
-    ensures { λ r. ⌜ (r ≡ madeNumber frontends size) × (now (t .exit) ≡ made frontends size (now (t .entry))) ⌝ }
+    ensures { λ r. ⌜ (r ≡ numberIn (madeOf (settingsOf frontends size) .outcome))
+        × (now (t .exit) ≡ ifDone (madeOf (settingsOf frontends size) .outcome) (madeOf (settingsOf frontends size) .satbox) (now (t .entry))) ⌝ }
 {
     let s = turns::make(*t, frontends, size);
     *t = s.satbox;
@@ -36,8 +40,9 @@ pub extern "C" fn satbox_request(
     answer: &mut [u8],
     journal: &mut [u8],
 ) -> Reply
-    ensures { λ r. ⌜ (r ≡ requestReply (now (request .entry)) clock address draw (now (t .entry)) (now (answer .entry)) (now (journal .entry)))
-        × (now (t .exit) ≡ requested (now (request .entry)) clock address draw (now (t .entry)) (now (answer .entry)) (now (journal .entry)))
+    ensures { λ r. ⌜ (r ≡ replyOf (replied (now (request .entry)) clock address draw (now (t .entry)) (now (answer .entry)) (now (journal .entry)) .outcome)
+        (replied (now (request .entry)) clock address draw (now (t .entry)) (now (answer .entry)) (now (journal .entry)) .count))
+        × (now (t .exit) ≡ replied (now (request .entry)) clock address draw (now (t .entry)) (now (answer .entry)) (now (journal .entry)) .satbox)
         × (now (answer .exit) ≡ repliedInto (now (request .entry)) clock address draw (now (t .entry)) (now (answer .entry)) (now (journal .entry)))
         × (now (journal .exit) ≡ repliedJournal (now (request .entry)) clock address draw (now (t .entry)) (now (answer .entry)) (now (journal .entry))) ⌝ }
 {
@@ -49,8 +54,8 @@ pub extern "C" fn satbox_request(
 // Closes every session that has expired.
 #[no_mangle]
 pub extern "C" fn satbox_tick(t: &mut SatBox, clock: u32, journal: &mut [u8]) -> u32
-    ensures { λ r. ⌜ (r ≡ tickNumber clock (now (t .entry)) (now (journal .entry)))
-        × (now (t .exit) ≡ ticked clock (now (t .entry)) (now (journal .entry)))
+    ensures { λ r. ⌜ (r ≡ numberIn (ticked clock (now (t .entry)) (now (journal .entry)) .outcome))
+        × (now (t .exit) ≡ ticked clock (now (t .entry)) (now (journal .entry)) .satbox)
         × (now (journal .exit) ≡ tickedJournal clock (now (t .entry)) (now (journal .entry))) ⌝ }
 {
     let s = turns::tick(*t, clock, journal);
@@ -61,8 +66,8 @@ pub extern "C" fn satbox_tick(t: &mut SatBox, clock: u32, journal: &mut [u8]) ->
 // Copies the bytes held to the front of a buffer, after which none are held.
 #[no_mangle]
 pub extern "C" fn satbox_collect(t: &mut SatBox, journal: &[u8], buffer: &mut [u8]) -> Reply
-    ensures { λ r. ⌜ (r ≡ collectReply (now (t .entry)) (now (journal .entry)) (now (buffer .entry)))
-        × (now (t .exit) ≡ collected (now (t .entry)) (now (journal .entry)) (now (buffer .entry)))
+    ensures { λ r. ⌜ (r ≡ replyOf (collected (now (t .entry)) (now (journal .entry)) (now (buffer .entry)) .outcome) (collected (now (t .entry)) (now (journal .entry)) (now (buffer .entry)) .count))
+        × (now (t .exit) ≡ collected (now (t .entry)) (now (journal .entry)) (now (buffer .entry)) .satbox)
         × (now (buffer .exit) ≡ collectedInto (now (t .entry)) (now (journal .entry)) (now (buffer .entry))) ⌝ }
 {
     let s = turns::collect(*t, journal, buffer);
@@ -73,7 +78,7 @@ pub extern "C" fn satbox_collect(t: &mut SatBox, journal: &[u8], buffer: &mut [u
 // What a frontend is to be set to.
 #[no_mangle]
 pub extern "C" fn satbox_order(t: &mut SatBox, frontend: u32) -> Ordered
-    ensures { λ r. ⌜ (r ≡ orderReply (now (t .entry)) frontend) × (now (t .exit) ≡ now (t .entry)) ⌝ }
+    ensures { λ r. ⌜ (r ≡ orderedAs (orderOf (now (t .entry)) frontend .outcome) (orderOf (now (t .entry)) frontend .stream)) × (now (t .exit) ≡ now (t .entry)) ⌝ }
 {
     let s = turns::order(*t, frontend);
     *t = s.satbox;
@@ -83,7 +88,7 @@ pub extern "C" fn satbox_order(t: &mut SatBox, frontend: u32) -> Ordered
 // Reads the record at a place; places count from 0.
 #[no_mangle]
 pub extern "C" fn satbox_read_record(bytes: &[u8], place: usize) -> Found
-    ensures { λ r. ⌜ r ≡ readReply (now (bytes .entry)) place ⌝ }
+    ensures { λ r. ⌜ r ≡ readFrom (readAt (now (bytes .entry)) place) ⌝ }
 {
     records::read(bytes, place)
 }

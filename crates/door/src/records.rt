@@ -1,6 +1,7 @@
 // The journal's records, as C gets them.
 ghost use mathlib.Core.Path.{_≡_};
-ghost use Rattle.door.specs.Records.{readReply, readFrom, writeReply, numberIn};
+ghost use Rattle.journal.specs.Calls.{readAt};
+ghost use Rattle.door.specs.Records.{readFrom, writeReply, numberIn};
 use journal::Outcome;
 use journal::Reading;
 use journal::Record;
@@ -40,7 +41,7 @@ fn read_from(reading: Reading) -> Found
 }
 
 pub(crate) fn read(bytes: &[u8], place: usize) -> Found
-    ensures { λ r. ⌜ r ≡ readReply (now (bytes .entry)) place ⌝ }
+    ensures { λ r. ⌜ r ≡ readFrom (readAt (now (bytes .entry)) place) ⌝ }
 {
     read_from(journal::read(bytes, place))
 }

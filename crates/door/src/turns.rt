@@ -2,12 +2,15 @@
 ghost use mathlib.Core.Path.{_≡_};
 ghost use mathlib.Core.Bool.{cond};
 ghost use lib.Dec.{ltb};
-ghost use Rattle.satbox.specs.Calls.{tickedJournal, collectedInto};
-ghost use Rattle.satbox.specs.Requests.{repliedInto, repliedJournal};
-ghost use Rattle.door.specs.Turns.{numberIn, made, madeNumber, requested, requestReply, ticked, tickNumber, collected, collectReply, orderNumber, isOn, orderReply};
+ghost use Rattle.table.specs.Made.{settingsOf, madeOf};
+ghost use Rattle.satbox.specs.Calls.{ifDone, ticked, tickedJournal, collected, collectedInto};
+ghost use Rattle.satbox.specs.Requests.{replied, repliedInto, repliedJournal};
+ghost use Rattle.orders.specs.Orders.{orderOf};
+ghost use Rattle.door.specs.Turns.{numberIn, replyOf, orderedAs};
 use stream::Stream;
 use table::Outcome;
 use table::SatBox;
+use table::Settings;
 
 // A refusal's number, 0 where the call was done; and how many bytes it put into the buffer that it was lent.
 #[repr(C)]
@@ -57,8 +60,9 @@ pub(crate) fn request(
     answer: &mut [u8],
     journal: &mut [u8],
 ) -> Replying
-    ensures { λ r. ⌜ (r .reply ≡ requestReply (now (request .entry)) clock address draw t (now (answer .entry)) (now (journal .entry)))
-        × (r .satbox ≡ requested (now (request .entry)) clock address draw t (now (answer .entry)) (now (journal .entry)))
+    ensures { λ r. ⌜ (r .reply ≡ replyOf (replied (now (request .entry)) clock address draw t (now (answer .entry)) (now (journal .entry)) .outcome)
+        (replied (now (request .entry)) clock address draw t (now (answer .entry)) (now (journal .entry)) .count))
+        × (r .satbox ≡ replied (now (request .entry)) clock address draw t (now (answer .entry)) (now (journal .entry)) .satbox)
         × (now (answer .exit) ≡ repliedInto (now (request .entry)) clock address draw t (now (answer .entry)) (now (journal .entry)))
         × (now (journal .exit) ≡ repliedJournal (now (request .entry)) clock address draw t (now (answer .entry)) (now (journal .entry))) ⌝ }
 {
@@ -83,9 +87,14 @@ fn few(frontends: u32) -> u16
 }
 
 pub(crate) fn make(t: SatBox, frontends: u32, size: u32) -> Refusing
-    ensures { λ r. ⌜ (r .refusal ≡ madeNumber frontends size) × (r .satbox ≡ made frontends size t) ⌝ }
+    ensures { λ r. ⌜ (r .refusal ≡ numberIn (madeOf (settingsOf frontends size) .outcome))
+        × (r .satbox ≡ ifDone (madeOf (settingsOf frontends size) .outcome) (madeOf (settingsOf frontends size) .satbox) t) ⌝ }
 {
-    let made = SatBox::fresh(few(frontends), size);
+    let made = SatBox::fresh(Settings {
+        size,
+        frontends: few(frontends),
+        spare: 0,
+    });
     let outcome = made.outcome;
     let u = made.satbox;
     let refusal = number_in(outcome);
@@ -96,8 +105,8 @@ pub(crate) fn make(t: SatBox, frontends: u32, size: u32) -> Refusing
 }
 
 pub(crate) fn tick(t: SatBox, clock: u32, journal: &mut [u8]) -> Refusing
-    ensures { λ r. ⌜ (r .refusal ≡ tickNumber clock t (now (journal .entry)))
-        × (r .satbox ≡ ticked clock t (now (journal .entry)))
+    ensures { λ r. ⌜ (r .refusal ≡ numberIn (ticked clock t (now (journal .entry)) .outcome))
+        × (r .satbox ≡ ticked clock t (now (journal .entry)) .satbox)
         × (now (journal .exit) ≡ tickedJournal clock t (now (journal .entry))) ⌝ }
 {
     let ticked = satbox::tick(t, clock, journal);
@@ -110,8 +119,8 @@ pub(crate) fn tick(t: SatBox, clock: u32, journal: &mut [u8]) -> Refusing
 }
 
 pub(crate) fn collect(t: SatBox, journal: &[u8], buffer: &mut [u8]) -> Replying
-    ensures { λ r. ⌜ (r .reply ≡ collectReply t (now (journal .entry)) (now (buffer .entry)))
-        × (r .satbox ≡ collected t (now (journal .entry)) (now (buffer .entry)))
+    ensures { λ r. ⌜ (r .reply ≡ replyOf (collected t (now (journal .entry)) (now (buffer .entry)) .outcome) (collected t (now (journal .entry)) (now (buffer .entry)) .count))
+        × (r .satbox ≡ collected t (now (journal .entry)) (now (buffer .entry)) .satbox)
         × (now (buffer .exit) ≡ collectedInto t (now (journal .entry)) (now (buffer .entry))) ⌝ }
 {
     let collected = satbox::collect(t, journal, buffer);
@@ -124,36 +133,33 @@ pub(crate) fn collect(t: SatBox, journal: &[u8], buffer: &mut [u8]) -> Replying
     Replying { reply, satbox: u }
 }
 
-fn order_number(outcome: orders::Ordered) -> u32
-    ensures { λ r. ⌜ r ≡ orderNumber outcome ⌝ }
+fn ordered_as(outcome: orders::Ordered, stream: Stream) -> Ordered
+    ensures { λ r. ⌜ r ≡ orderedAs outcome stream ⌝ }
 {
     match outcome {
-        orders::Ordered::On => 0,
-        orders::Ordered::Off => 0,
-        orders::Ordered::Refused(refusal) => table::number(refusal) as u32,
-    }
-}
-
-fn is_on(outcome: orders::Ordered) -> u32
-    ensures { λ r. ⌜ r ≡ isOn outcome ⌝ }
-{
-    match outcome {
-        orders::Ordered::On => 1,
-        orders::Ordered::Off => 0,
-        orders::Ordered::Refused(refusal) => 0,
+        orders::Ordered::On => Ordered {
+            refusal: 0,
+            on: 1,
+            stream,
+        },
+        orders::Ordered::Off => Ordered {
+            refusal: 0,
+            on: 0,
+            stream,
+        },
+        orders::Ordered::Refused(refusal) => Ordered {
+            refusal: table::number(refusal) as u32,
+            on: 0,
+            stream,
+        },
     }
 }
 
 pub(crate) fn order(t: SatBox, frontend: u32) -> Ordering
-    ensures { λ r. ⌜ (r .ordered ≡ orderReply t frontend) × (r .satbox ≡ t) ⌝ }
+    ensures { λ r. ⌜ (r .ordered ≡ orderedAs (orderOf t frontend .outcome) (orderOf t frontend .stream)) × (r .satbox ≡ t) ⌝ }
 {
     let r = orders::frontend_order(t, frontend);
     let outcome = r.outcome;
-    let stream = r.stream;
-    let ordered = Ordered {
-        refusal: order_number(outcome),
-        on: is_on(outcome),
-        stream,
-    };
+    let ordered = ordered_as(outcome, r.stream);
     Ordering { ordered, satbox: t }
 }

@@ -70,7 +70,7 @@ fn ask_in(t: SatBox, journal: &mut [u8], room: u32, line: &[u8]) -> SatBox {
 
 // `ask CLOCK CLIENT DRAW` and a request
 pub(crate) fn ask(t: SatBox, journal: &mut [u8], line: &[u8]) -> SatBox {
-    let n = lent::at_most(journal.len(), t.size);
+    let n = lent::at_most(journal.len(), t.settings.size);
     ask_in(t, &mut journal[0..n], 4096, line)
 }
 

@@ -7,11 +7,16 @@ use crate::show;
 use crate::words;
 use orders::Ordered;
 use table::SatBox;
+use table::Settings;
 
 // `box F C`
 pub(crate) fn make(journal: &mut [u8], line: &[u8]) -> SatBox {
     let frontends = fields::medium(words::number(line, 1));
-    let made = SatBox::fresh(frontends, words::number(line, 2));
+    let made = SatBox::fresh(Settings {
+        size: words::number(line, 2),
+        frontends,
+        spare: 0,
+    });
     let t = made.satbox;
     let outcome = made.outcome;
     lent::fill(journal, lent::UNWRITTEN);
@@ -23,7 +28,7 @@ pub(crate) fn make(journal: &mut [u8], line: &[u8]) -> SatBox {
 // `tick CLOCK`, and the length of the journal lent where it is not the box's.
 pub(crate) fn tick(t: SatBox, journal: &mut [u8], line: &[u8]) -> SatBox {
     let clock = words::number(line, 1);
-    let n = lent::at_most(journal.len(), words::number_or(line, 2, t.size));
+    let n = lent::at_most(journal.len(), words::number_or(line, 2, t.settings.size));
     let r = satbox::tick(t, clock, &mut journal[0..n]);
     let u = r.satbox;
     let outcome = r.outcome;
@@ -49,7 +54,7 @@ fn collect_into(t: SatBox, journal: &[u8], buffer: &mut [u8]) -> SatBox {
 pub(crate) fn collect(t: SatBox, journal: &[u8], line: &[u8]) -> SatBox {
     let mut buffer = [0u8; 65536];
     let n = lent::at_most(65536, words::number(line, 1));
-    let k = lent::at_most(journal.len(), words::number_or(line, 2, t.size));
+    let k = lent::at_most(journal.len(), words::number_or(line, 2, t.settings.size));
     collect_into(t, &journal[0..k], &mut buffer[0..n])
 }
 
@@ -94,7 +99,7 @@ fn attempt_collect(t: SatBox, journal: &[u8]) {
 
 // `spoil` as `set`, for a look at what the calls say to such a table, which is then thrown away, and at what they leave of the buffers.
 pub(crate) fn spoil(t: SatBox, journal: &mut [u8], line: &[u8]) -> SatBox {
-    let n = lent::at_most(journal.len(), t.size);
+    let n = lent::at_most(journal.len(), t.settings.size);
     let u = fields::set(t, line);
     asking::attempt(u, &mut journal[0..n]);
     attempt_tick(u, &mut journal[0..n]);

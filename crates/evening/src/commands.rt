@@ -7,6 +7,7 @@ use crate::show;
 use crate::words;
 use scan::Case;
 use table::SatBox;
+use table::Settings;
 
 fn show_table(t: SatBox) -> SatBox {
     show::table(t);
@@ -41,7 +42,7 @@ fn command(t: SatBox, journal: &mut [u8], line: &[u8]) -> SatBox {
 }
 
 pub(crate) fn play(input: &[u8], journal: &mut [u8]) {
-    let mut t = SatBox::fresh(0, 0).satbox;
+    let mut t = SatBox::fresh(Settings::NONE).satbox;
     let mut p = 0;
     while p < input.len() {
         let line = script::line(input, p);

@@ -70,11 +70,14 @@ fn in_stream(m: Stream, field: usize, v: u32, entry: usize) -> Stream {
 fn in_box(t: SatBox, field: usize, v: u32) -> SatBox {
     let mut u = t;
     match field {
-        20 => u.size = v,
+        20 => u.settings.size = v,
         21 => u.held = v,
         22 => u.clock = v,
         23 => u.sequence = medium(v),
-        24 => u.frontends = medium(v),
+        24 => {
+            let frontends = medium(v);
+            u.settings.frontends = frontends;
+        }
         _ => {}
     }
     u

@@ -126,8 +126,8 @@ fn streams(t: SatBox) {
 }
 
 pub(crate) fn table(t: SatBox) {
-    out::number(b"  frontends ", t.frontends as u32);
-    out::number(b" size ", t.size);
+    out::number(b"  frontends ", t.settings.frontends as u32);
+    out::number(b" size ", t.settings.size);
     if formed::is_well_formed(t) {
         out::text(b", well formed");
     } else {

@@ -1,5 +1,4 @@
--- Document 01, "An opening takes the lowest free place": what is free among the sessions and the streams, and the number that is drawn.
--- Assumes nothing.
+-- Document 01, "An opening takes the lowest free place": what is free in a table, and the number that is drawn. Assumes nothing.
 use Prim.Native.Nat.{ℕ, zero, suc, _+_, _%_}
 use mathlib.Core.Bool.{Bool, cond, _||_}
 use mathlib.Core.List.{List}

@@ -80,10 +80,10 @@ pub fn is_held(t: SatBox, f: u32) -> bool
 
 // The lowest frontend that no stream holds; the one after the last where all are held.
 pub fn lowest_frontend(t: SatBox) -> u32
-    ensures { λ r. ⌜ r ≡ lowestFrontend (t .frontends) (t .streams) ⌝ }
+    ensures { λ r. ⌜ r ≡ lowestFrontend (t .settings .frontends) (t .streams) ⌝ }
 {
     let held = frontends_of(t);
-    let last = t.frontends as u32;
+    let last = t.settings.frontends as u32;
     let mut f = 1;
     while f <= last {
         if !table::is_among(&held, f) {

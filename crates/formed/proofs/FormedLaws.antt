@@ -242,7 +242,7 @@ walked {t} {i} w h =
 pub record Placing (t : SatBox) (owners : List ℕ) (n : ℕ) (was feeds : List ℕ) (k : ℕ) : Type 0 where
   pub walked : Walked t owners n
   pub gathered : Gathered (λ (m : Stream). m .frontend) (t .streams) was feeds k
-  pub sound : Passing (isSound (t .frontends)) (t .streams) k
+  pub sound : Passing (isSound (t .settings .frontends)) (t .streams) k
   pub owned : areOwned (t .sessions) (k + 1) (drop k (t .streams)) ≡ areOwned (t .sessions) 1 (t .streams)
 
 pub placing-start : {t : SatBox} {i n : ℕ} {numbers owners : List ℕ} → Walking t i numbers owners n → 32 ≤ i → Placing t owners n (replicate 8 0) (replicate 8 0) 0
@@ -250,7 +250,7 @@ placing-start {t} w h =
     record {
       walked = walked w h;
       gathered = gathered-start (λ m. m .frontend) (t .streams) (replicate 8 0) (sym (w .rows));
-      sound = passing-start (isSound (t .frontends)) (t .streams);
+      sound = passing-start (isSound (t .settings .frontends)) (t .streams);
       owned = refl;
     }
 
@@ -262,7 +262,7 @@ module _ {t : SatBox} {n k : ℕ} {owners was feeds : List ℕ} (p : Placing t o
     tallied : getD owners (k + 1) 0 ≡ count (owns (k + 1)) (t .sessions)
     tallied = p .walked .owned (k + 1) (omega arith)
 
-    module _ {r : Bool} (e : r ≡ (isSound (t .frontends) (getD (t .streams) k pastStream) && (isDead (getD (t .streams) k pastStream) || eqb (getD owners (k + 1) 0) 1))) where
+    module _ {r : Bool} (e : r ≡ (isSound (t .settings .frontends) (getD (t .streams) k pastStream) && (isDead (getD (t .streams) k pastStream) || eqb (getD owners (k + 1) 0) 1))) where
       pub placing-not : not r ≡ true → false ≡ wellFormed t
       placing-not z =
           ill (λ f. never
@@ -273,22 +273,22 @@ module _ {t : SatBox} {n k : ℕ} {owners was feeds : List ℕ} (p : Placing t o
       pub placing-more : not r ≡ false → Placing t owners n was (set feeds k (getD (t .streams) k pastStream .frontend)) (k + 1)
       placing-more y =
           let m = getD (t .streams) k pastStream in
-          let b = and-both (isSound (t .frontends) m) (isDead m || eqb (getD owners (k + 1) 0) 1) (held e y) in
+          let b = and-both (isSound (t .settings .frontends) m) (isDead m || eqb (getD owners (k + 1) 0) 1) (held e y) in
           let z : suc (k + 1) ≡ k + 1 + 1 = omega arith in
           record {
             walked = p .walked;
             gathered = gathered-more (λ x. x .frontend) pastStream (p .gathered) row refl;
-            sound = passing-more (isSound (t .frontends)) pastStream (p .sound) row refl (b .0);
+            sound = passing-more (isSound (t .settings .frontends)) pastStream (p .sound) row refl (b .0);
             owned = sym (turn (areOwned (t .sessions) (k + 1)) (t .streams) k pastStream row ∙ rw (z, sym tallied, b .1)) ∙ p .owned;
           }
 
   -- where all that was walked over is right, these decide
-  pub placing-end : 8 ≤ k → {a b c : Bool} → a ≡ areSizes (t .frontends) (t .size) → b ≡ areDistinct feeds → c ≡ (eqb (t .held % 16) 0 && leb (t .held + 16 * n) (t .size)) → ((a && b) && c) ≡ wellFormed t
+  pub placing-end : 8 ≤ k → {a b c : Bool} → a ≡ areSizes (t .settings) → b ≡ areDistinct feeds → c ≡ (eqb (t .held % 16) 0 && leb (t .held + 16 * n) (t .settings .size)) → ((a && b) && c) ≡ wellFormed t
   unfolding wellFormed
   placing-end h {a} {b} {c} x y z =
       let l : length (t .streams) ≤ k = omega (arith, p .walked .rows) in
       let f = gathered-end (λ m. m .frontend) (p .gathered) l in
-      let g = sym (passing-end (isSound (t .frontends)) (p .sound) l) in
+      let g = sym (passing-end (isSound (t .settings .frontends)) (p .sound) l) in
       let o = sym (p .owned) ∙ end (areOwned (t .sessions) (k + 1)) (t .streams) k l in
       let w = p .walked in
       sym (and-and a b c) ∙ rw (w .distinct, w .housed, o, g, w .proper, x, y, f, z, w .opened)

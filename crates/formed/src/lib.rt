@@ -103,11 +103,11 @@ pub fn is_well_formed(t: SatBox) -> bool
         let m = t.streams[k];
         feeds[k] = m.frontend as u32;
         k += 1;
-        if !is_placed(m, owners[k], t.frontends) {
+        if !is_placed(m, owners[k], t.settings.frontends) {
             return false;
         }
     }
-    table::are_sizes(t.frontends, t.size)
+    table::are_sizes(t.settings)
         & table::are_distinct(&feeds)
-        & is_fitting(t.held, t.size, opens)
+        & is_fitting(t.held, t.settings.size, opens)
 }

@@ -8,6 +8,7 @@ use Rattle.scan.specs.Lists.{all}
 use Rattle.scan.proofs.Bools.{and-both}
 use Rattle.journal.specs.declared.Record.{Record}
 use Rattle.table.specs.Made.{fresh}
+use Rattle.table.specs.declared.Settings.{Settings}
 use Rattle.table.specs.declared.SatBox.{SatBox}
 use Rattle.table.specs.declared.Outcome.{Outcome}
 use Rattle.table.specs.declared.Outcome.the-variants.{Done, Refused}
@@ -24,8 +25,8 @@ use Rattle.lives.proofs.Chains.{Watched, leads-agree, leads-then, watch
 use Rattle.lives.proofs.Watching.{requested-watched}
 
 -- A FRESH BOX holds nothing
-born-agree : (frontends size : ℕ) → Agree [] (fresh frontends size)
-born-agree frontends size = record { same = λ f n z. refl }
+born-agree : (settings : Settings) → Agree [] (fresh settings)
+born-agree settings = record { same = λ f n z. refl }
 
 -- EACH CALL
 done-leads : (o : Outcome) (d : Did) (h : List Record) (t : SatBox) → Watched t d → Agree h t → Leads h t (h ++ ifDone o (d .records) []) (ifDone o (d .satbox) t)
@@ -36,8 +37,8 @@ emptied-leads : (o : Outcome) (h : List Record) (t : SatBox) → Agree h t → L
 emptied-leads Done h t g = watched-quiet (quiet (begun g) empty (agree-emptied t g))
 emptied-leads (Refused r) h t g = watched-quiet (begun g)
 
-module _ {frontends size : ℕ} {x : Life} (g : Good frontends size x) (a : Agree (x .history) (x .satbox)) where
-  pub live-leads : (c : Call) → isCall size c ≡ true → Leads (x .history) (x .satbox) (live c x .history) (live c x .satbox)
+module _ {settings : Settings} {x : Life} (g : Good settings x) (a : Agree (x .history) (x .satbox)) where
+  pub live-leads : (c : Call) → isCall (settings .size) c ≡ true → Leads (x .history) (x .satbox) (live c x .history) (live c x .satbox)
   unfolding live replied ticked collected
   live-leads (request s clock address draw b l) e =
       let short = ltb-true draw 4294967296 (and-both (isShort draw) _ (and-both (isShort address) _ (and-both (isShort clock) _ e .1) .1) .0) in
@@ -48,13 +49,13 @@ module _ {frontends size : ℕ} {x : Life} (g : Good frontends size x) (a : Agre
   live-leads (order n) e = watched-quiet (begun a)
 
 -- ALL OF THEM
-run-leads : {frontends size : ℕ} (cs : List Call) {x : Life} → all (isCall size) cs ≡ true → Good frontends size x → Agree (x .history) (x .satbox) → Leads (x .history) (x .satbox) (run cs x .history) (run cs x .satbox)
+run-leads : {settings : Settings} (cs : List Call) {x : Life} → all (isCall (settings .size)) cs ≡ true → Good settings x → Agree (x .history) (x .satbox) → Leads (x .history) (x .satbox) (run cs x .history) (run cs x .satbox)
 run-leads [] e g a = begun a
-run-leads {size = size} (c ∷ cs) {x} e g a =
-    let p = and-both (isCall size c) _ e in
+run-leads {settings = settings} (c ∷ cs) {x} e g a =
+    let p = and-both (isCall (settings .size) c) _ e in
     let first = live-leads g a c (p .0) in
     leads-then first (run-leads cs (p .1) (live-good g c (p .0)) (leads-agree first))
 
-pub after-leads : {frontends size : ℕ} {j : List ℕ} {cs : List Call} → Lives frontends size j cs → Leads [] (fresh frontends size) (after frontends size j cs .history) (after frontends size j cs .satbox)
-after-leads {frontends} {size} {j} {cs} h =
-    run-leads cs (h .calls) (born-good frontends size j (h .sizes) (h .journal)) (born-agree frontends size)
+pub after-leads : {settings : Settings} {j : List ℕ} {cs : List Call} → Lives settings j cs → Leads [] (fresh settings) (after settings j cs .history) (after settings j cs .satbox)
+after-leads {settings} {j} {cs} h =
+    run-leads cs (h .calls) (born-good settings j (h .sizes) (h .journal)) (born-agree settings)

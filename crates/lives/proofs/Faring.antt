@@ -26,6 +26,7 @@ use Rattle.table.specs.Counts.{any}
 use Rattle.table.specs.Table.{noSession, has, isFree, isOpen, sessionAt, streamOf}
 use Rattle.finding.specs.Finding.{lowestPlace}
 use Rattle.table.specs.declared.Session.{Session}
+use Rattle.table.specs.declared.Settings.{Settings}
 use Rattle.table.specs.declared.SatBox.{SatBox}
 use Rattle.table.specs.declared.Outcome.{Outcome}
 use Rattle.table.specs.declared.Outcome.the-variants.{Done, Refused}
@@ -77,7 +78,7 @@ done-later : (o : Outcome) {c : ℕ} (t u : SatBox) → c ≤ t .clock → c ≤
 done-later Done t u a b = b
 done-later (Refused r) t u a b = a
 
-clock-later : {frontends size c : ℕ} {x : Life} → Good frontends size x → (k : Call) → c ≤ x .satbox .clock → c ≤ live k x .satbox .clock
+clock-later : {settings : Settings} {c : ℕ} {x : Life} → Good settings x → (k : Call) → c ≤ x .satbox .clock → c ≤ live k x .satbox .clock
 unfolding live replied ticked collected emptied
 clock-later {x = x} g (request s clock address draw b l) h =
     done-later (requestOutcome (x .satbox) (lent l (x .journal)) b) (x .satbox) (requested s clock address draw (x .satbox) .did .satbox) h (omega (arith, requested-set s clock address draw (x .satbox) (g .whole) .clock))
@@ -133,7 +134,7 @@ module _ (n i : ℕ) (some : n ≡ 0 → ⊥) (P : ℕ → Type 0) where
           changes-fares (options-refreshes s address draw t w passed m (ltb-true _ _ y) .changes) a p (λ e. (at-place e, kept m (sym e))) rs (sames _ _)
       options-fares m (isnt y) = alone (options-alone s address draw t w passed m (λ h. never (lt-ltb _ _ h) y)) rs
 
-      setup-fares : methodOf s ≡ Setup → Case (ltb (placeNamedBy s t) 32) → Same (askedOf (t .frontends) s .stream) 0 → Fares n i P (answered s address draw t .did .satbox) rs
+      setup-fares : methodOf s ≡ Setup → Case (ltb (placeNamedBy s t) 32) → Same (askedOf (t .settings .frontends) s .stream) 0 → Fares n i P (answered s address draw t .did .satbox) rs
       setup-fares m (is y) k =
           changes-fares (setup-replaces s address draw t w passed m (ltb-true _ _ y) .changes) a p (λ e. (at-place e, last-at e)) rs (sames _ _)
       setup-fares m (isnt y) (same k) =
@@ -198,7 +199,7 @@ module _ (n i : ℕ) (some : n ≡ 0 → ⊥) (P : ℕ → Type 0) where
     emptied-fares Done (closed y) = closed y
     emptied-fares (Refused r) f = f
 
-    live-fares : {frontends size : ℕ} {x : Life} → Good frontends size x → c ≤ x .satbox .clock → (k : Call) → (KeepsAlive n k → (m : ℕ) → c ≤ m → P m)
+    live-fares : {settings : Settings} {x : Life} → Good settings x → c ≤ x .satbox .clock → (k : Call) → (KeepsAlive n k → (m : ℕ) → c ≤ m → P m)
         → sessionAt (x .satbox) i .number ≡ n → P (sessionAt (x .satbox) i .last) → Fares n i P (live k x .satbox) (live k x .records)
     unfolding live replied ticked collected
     live-fares {x = x} g now (request s clock address draw b l) kept a p =
@@ -212,12 +213,12 @@ module _ (n i : ℕ) (some : n ≡ 0 → ⊥) (P : ℕ → Type 0) where
     abbrev Unkept : List Call → Type 0
     Unkept ks = (i : ℕ) → KeepsAlive n (getD ks i (order 0)) → ⊥
 
-    pub run-fares : {frontends size : ℕ} (ks : List Call) {x : Life} → all (isCall size) ks ≡ true → Good frontends size x → c ≤ x .satbox .clock
+    pub run-fares : {settings : Settings} (ks : List Call) {x : Life} → all (isCall (settings .size)) ks ≡ true → Good settings x → c ≤ x .satbox .clock
         → ((m : ℕ) → c ≤ m → P m) ⊎ Unkept ks
         → sessionAt (x .satbox) i .number ≡ n → P (sessionAt (x .satbox) i .last) → Fares n i P (run ks x .satbox) (recordsOf ks x)
     run-fares [] e g now kept a p = remains a p
-    run-fares {size = size} (k ∷ ks) {x} e g now kept a p =
-        let q = and-both (isCall size k) _ e in
+    run-fares {settings = settings} (k ∷ ks) {x} e g now kept a p =
+        let q = and-both (isCall (settings .size) k) _ e in
         then-fares (live-fares g now k (first-kept kept) a p)
         (λ b r. run-fares ks (q .1) (live-good g k (q .0)) (clock-later g k now) (rest-kept kept) b r)
       where
@@ -230,8 +231,8 @@ module _ (n i : ℕ) (some : n ≡ 0 → ⊥) (P : ℕ → Type 0) where
         rest-kept (inr z) = inr (λ i. z (suc i))
 
 -- WHOM NOTHING KEEPS keeps its last time; and once the clock is 60 later, a record says that it closed: nothing that is open has expired
-module _ {frontends size : ℕ} {x : Life} (g : Good frontends size x) (young : Young (x .satbox .clock) (x .satbox)) (i : ℕ) (some : isOpen (sessionAt (x .satbox) i) ≡ true)
-    (ds : List Call) (calls : all (isCall size) ds ≡ true) (unkept : (k : ℕ) → KeepsAlive (sessionAt (x .satbox) i .number) (getD ds k (order 0)) → ⊥) where
+module _ {settings : Settings} {x : Life} (g : Good settings x) (young : Young (x .satbox .clock) (x .satbox)) (i : ℕ) (some : isOpen (sessionAt (x .satbox) i) ≡ true)
+    (ds : List Call) (calls : all (isCall (settings .size)) ds ≡ true) (unkept : (k : ℕ) → KeepsAlive (sessionAt (x .satbox) i .number) (getD ds k (order 0)) → ⊥) where
   abbrev old : Session
   old = sessionAt (x .satbox) i
 

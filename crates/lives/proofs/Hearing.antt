@@ -20,6 +20,7 @@ use Rattle.table.specs.Counts.{count}
 use Rattle.table.specs.Table.{noSession, has, isOpen, sessionAt, streamOf, isOn}
 use Rattle.finding.specs.Finding.{lowestPlace, lowestId}
 use Rattle.table.specs.declared.Session.{Session}
+use Rattle.table.specs.declared.Settings.{Settings}
 use Rattle.table.specs.declared.SatBox.{SatBox}
 use Rattle.table.specs.declared.Outcome.{Outcome}
 use Rattle.table.specs.declared.Outcome.the-variants.{Done, Refused}
@@ -197,7 +198,7 @@ module _ (n c : ℕ) (some : n ≡ 0 → ⊥) where
   emptied-hears Done a = record { now = a .now; heard = a .heard; late = refl }
   emptied-hears (Refused r) a = a
 
-  live-hears : {frontends size : ℕ} {x : Life} → Good frontends size x → (k : Call) → c ≤ x .satbox .clock → Heard n c (x .satbox) → Hears n c (live k x .satbox) (live k x .records)
+  live-hears : {settings : Settings} {x : Life} → Good settings x → (k : Call) → c ≤ x .satbox .clock → Heard n c (x .satbox) → Hears n c (live k x .satbox) (live k x .records)
   unfolding live replied ticked collected
   live-hears {x = x} g (request s clock address draw b l) now h =
       done-hears (requestOutcome (x .satbox) (lent l (x .journal)) b) (requested-hears s clock address draw (x .satbox) (g .whole) now h) (record { now = now; heard = h; late = refl })
@@ -206,10 +207,10 @@ module _ (n c : ℕ) (some : n ≡ 0 → ⊥) where
   live-hears {x = x} g (collect b l) now h = emptied-hears (collectOutcome (x .satbox) (lent l (x .journal)) b) (record { now = now; heard = h; late = refl })
   live-hears g (order k) now h = record { now = now; heard = h; late = refl }
 
-  run-hears : {frontends size : ℕ} (ks : List Call) {x : Life} → all (isCall size) ks ≡ true → Good frontends size x → c ≤ x .satbox .clock → Heard n c (x .satbox) → Hears n c (run ks x .satbox) (recordsOf ks x)
+  run-hears : {settings : Settings} (ks : List Call) {x : Life} → all (isCall (settings .size)) ks ≡ true → Good settings x → c ≤ x .satbox .clock → Heard n c (x .satbox) → Hears n c (run ks x .satbox) (recordsOf ks x)
   run-hears [] e g now h = record { now = now; heard = h; late = refl }
-  run-hears {size = size} (k ∷ ks) {x} e g now h =
-      let p = and-both (isCall size k) _ e in
+  run-hears {settings = settings} (k ∷ ks) {x} e g now h =
+      let p = and-both (isCall (settings .size) k) _ e in
       let a = live-hears g k now h in
       let b = run-hears ks (p .1) (live-good g k (p .0)) (a .now) (a .heard) in
       record {
@@ -244,7 +245,7 @@ late-at n c (r ∷ rs) e (suc i) past l y = late-at n c rs (and-both (isLate n c
 pub hears-late : {n c : ℕ} {t : SatBox} {rs : List Record} → Hears n c t rs → (i : ℕ) (past : Record) → i < length rs → isTimeOut n (getD rs i past) ≡ true → c + 60 ≤ getD rs i past .clock
 hears-late {n} {c} {t} {rs} p = late-at n c rs (p .late)
 
-module _ {frontends size : ℕ} {x : Life} (g : Good frontends size x) (s : List ℕ) (clock address draw : ℕ) (b : List ℕ) (l : Lent) where
+module _ {settings : Settings} {x : Life} (g : Good settings x) (s : List ℕ) (clock address draw : ℕ) (b : List ℕ) (l : Lent) where
   abbrev v : SatBox
   v = sweeping clock (x .satbox) .satbox
 
@@ -265,7 +266,7 @@ module _ {frontends size : ℕ} {x : Life} (g : Good frontends size x) (s : List
 
     some : kept .number ≡ 0 → ⊥
     unfolding sightOf
-    some = let a = askedOf (v .frontends) s in named-closable v w a (sightOf v a) refl (lt-ltb (placeNamedBy s v) 32 named) .some
+    some = let a = askedOf (v .settings .frontends) s in named-closable v w a (sightOf v a) refl (lt-ltb (placeNamedBy s v) 32 named) .some
 
     after-is : live c x .satbox ≡ answered s address draw v .did .satbox
     unfolding live replied requested
@@ -279,17 +280,17 @@ module _ {frontends size : ℕ} {x : Life} (g : Good frontends size x) (s : List
     unfolding live
     now = rw (after-is, changes .settled .clock, now-is) (omega arith)
 
-    module _ (ds : List Call) (e : all (isCall size) (c ∷ ds) ≡ true) where
+    module _ (ds : List Call) (e : all (isCall (settings .size)) (c ∷ ds) ≡ true) where
       pub kept-hears : Hears (kept .number) (max (x .satbox .clock) clock) (run ds (live c x) .satbox) (recordsOf ds (live c x))
       unfolding live
       kept-hears =
-          let p = and-both (isCall size c) _ e in
+          let p = and-both (isCall (settings .size) c) _ e in
           run-hears (kept .number) (max (x .satbox .clock) clock) some ds (p .1) (live-good g c (p .0)) now
           (rw (after-is, ← now-is) (λ i. refreshed-heard w named some changes i (sames _ _)))
 
       pub kept-fares : Fares (kept .number) (placeNamedBy s v) (λ last. max (x .satbox .clock) clock ≤ last) (run ds (live c x) .satbox) (recordsOf ds (live c x))
       unfolding live
       kept-fares =
-          let p = and-both (isCall size c) _ e in
+          let p = and-both (isCall (settings .size) c) _ e in
           run-fares (kept .number) (placeNamedBy s v) some (λ last. max (x .satbox .clock) clock ≤ last) (max (x .satbox .clock) clock) ds (p .1) (live-good g c (p .0)) now (inl (λ m h. h))
           (rw (after-is, changes .session)) (rw (after-is, changes .session, now-is) (omega arith))

@@ -1,6 +1,6 @@
 -- What every life keeps: the table is well formed, and the journal, what was collected and the sequence are those of the history. An operation
 -- that counts what it writes keeps it, and so does a collection. Assumes nothing.
-use mathlib.Core.Path.{_≡_, refl, _∙_}
+use mathlib.Core.Path.{_≡_, refl, _∙_, ap}
 use mathlib.Core.Bool.{true}
 use mathlib.Core.List.{List, [], _++_, append-assoc, append-nil}
 use Prim.Native.Nat.{ℕ, _+_, _*_, _≤_, _<_}
@@ -13,6 +13,7 @@ use Rattle.writing.proofs.Writes.{written-length}
 use Rattle.journal.specs.Records.{isRecord}
 use Rattle.journal.specs.declared.Record.{Record}
 use Rattle.table.specs.Formed.{areSizes}
+use Rattle.table.specs.declared.Settings.{Settings}
 use Rattle.table.specs.declared.SatBox.{SatBox}
 use Rattle.table.specs.declared.Outcome.{Outcome}
 use Rattle.table.specs.declared.Outcome.the-variants.{Done, Refused}
@@ -28,12 +29,11 @@ use Rattle.lives.specs.Calls.{Lent, own, lent, ownAfter, Life, after}
 use Rattle.lives.proofs.Fitting.{all-both}
 use Rattle.lives.proofs.Journals.{take-written, counts-both}
 
-pub record Good (frontends size : ℕ) (x : Life) : Type 0 where
+pub record Good (settings : Settings) (x : Life) : Type 0 where
   pub whole : Whole (x .satbox)
-  pub sized : x .satbox .size ≡ size
-  pub fed : x .satbox .frontends ≡ frontends
+  pub set : x .satbox .settings ≡ settings
   pub clock : x .satbox .clock < 4294967296
-  pub journal : length (x .journal) ≡ size
+  pub journal : length (x .journal) ≡ settings .size
   pub held : x .satbox .held ≡ 16 * length (x .since)
   pub text : take (x .satbox .held) (x .journal) ≡ bytesOf (x .since)
   pub sequence : Counts-on 0 (x .history) (x .satbox .sequence)
@@ -42,13 +42,18 @@ pub record Good (frontends size : ℕ) (x : Life) : Type 0 where
   pub split : x .history ≡ past ++ x .since
   pub gathered : x .gathered ≡ bytesOf past
 
+size-of : {a b : Settings} → a ≡ b → a .size ≡ b .size
+size-of e = ap (λ (s : Settings). s .size) e
+
+pub sized : {settings : Settings} {x : Life} → Good settings x → x .satbox .settings .size ≡ settings .size
+sized g = size-of (g .set)
+
 -- A FRESH BOX
-pub born-good : (frontends size : ℕ) (j : List ℕ) → areSizes frontends size ≡ true → length j ≡ size → Good frontends size (after frontends size j [])
-born-good frontends size j e h =
+pub born-good : (settings : Settings) (j : List ℕ) → areSizes settings ≡ true → length j ≡ settings .size → Good settings (after settings j [])
+born-good settings j e h =
     record {
-      whole = fresh-whole frontends size e;
-      sized = refl;
-      fed = refl;
+      whole = fresh-whole settings e;
+      set = refl;
       clock = omega arith;
       journal = h;
       held = refl;
@@ -65,8 +70,7 @@ pub record Works (t : SatBox) (d : Did) : Type 0 where
   pub whole : Whole (d .satbox)
   pub counted : Counted t d
   pub recorded : Recorded t d
-  pub size : d .satbox .size ≡ t .size
-  pub frontends : d .satbox .frontends ≡ t .frontends
+  pub settings : d .satbox .settings ≡ t .settings
   pub clock : d .satbox .clock < 4294967296
 
 -- a life after a call that did d, or was refused, with the journal that it was lent
@@ -96,13 +100,12 @@ emptiedInto l o b x =
       gathered = x .gathered ++ take (ifDone o held 0) (ifDone o (take held (lent l (x .journal)) ++ drop held b) b);
     }
 
-module _ {frontends size : ℕ} {x : Life} (g : Good frontends size x) where
-  pub same-good : {o : Outcome} → Good frontends size (record { outcome = o; records = []; satbox = x .satbox; journal = x .journal; history = x .history ++ []; since = x .since ++ []; gathered = x .gathered ++ [] })
+module _ {settings : Settings} {x : Life} (g : Good settings x) where
+  pub same-good : {o : Outcome} → Good settings (record { outcome = o; records = []; satbox = x .satbox; journal = x .journal; history = x .history ++ []; since = x .since ++ []; gathered = x .gathered ++ [] })
   same-good =
       record {
         whole = g .whole;
-        sized = g .sized;
-        fed = g .fed;
+        set = g .set;
         clock = g .clock;
         journal = g .journal;
         held = rw append-nil (g .held);
@@ -114,17 +117,16 @@ module _ {frontends size : ℕ} {x : Life} (g : Good frontends size x) where
         gathered = rw append-nil (g .gathered);
       }
 
-  done-good : (d : Did) → Works (x .satbox) d → Good frontends size (worked own Done d x)
+  done-good : (d : Did) → Works (x .satbox) d → Good settings (worked own Done d x)
   done-good d w =
       let t = x .satbox in
       let new = bytesOf (d .records) in
       let n = bytes-length (d .records) in
       let held : d .satbox .held ≡ t .held + length new = omega (arith, n, w .counted .held) in
-      let fits : t .held + length new ≤ length (x .journal) = omega (arith, held, w .whole .formed .fits .bound, w .size, g .sized, g .journal) in
+      let fits : t .held + length new ≤ length (x .journal) = omega (arith, held, w .whole .formed .fits .bound, size-of (w .settings), sized g, g .journal) in
       record {
         whole = w .whole;
-        sized = w .size ∙ g .sized;
-        fed = w .frontends ∙ g .fed;
+        set = w .settings ∙ g .set;
         clock = w .clock;
         journal = written-length (x .journal) (t .held) new ∙ g .journal;
         held = rw length-append (omega (arith, w .counted .held, g .held));
@@ -136,21 +138,20 @@ module _ {frontends size : ℕ} {x : Life} (g : Good frontends size x) where
         gathered = rw append-nil (g .gathered);
       }
 
-  pub worked-good : (o : Outcome) (d : Did) → Works (x .satbox) d → Good frontends size (worked own o d x)
+  pub worked-good : (o : Outcome) (d : Did) → Works (x .satbox) d → Good settings (worked own o d x)
   worked-good Done d w = done-good d w
   worked-good (Refused r) d w = same-good
 
   -- A COLLECTION
-  pub collected-good : (o : Outcome) (b : List ℕ) → Whole (ifDone o (emptied (x .satbox)) (x .satbox)) → Good frontends size (emptiedInto own o b x)
+  pub collected-good : (o : Outcome) (b : List ℕ) → Whole (ifDone o (emptied (x .satbox)) (x .satbox)) → Good settings (emptiedInto own o b x)
   unfolding emptied
   collected-good (Refused r) b w = same-good
   collected-good Done b w =
       let t = x .satbox in
-      let n : length (take (t .held) (x .journal)) ≡ t .held = length-take-le (t .held) (x .journal) (omega (arith, g .whole .formed .fits .bound, g .sized, g .journal)) in
+      let n : length (take (t .held) (x .journal)) ≡ t .held = length-take-le (t .held) (x .journal) (omega (arith, g .whole .formed .fits .bound, sized g, g .journal)) in
       record {
         whole = w;
-        sized = g .sized;
-        fed = g .fed;
+        set = g .set;
         clock = g .clock;
         journal = g .journal;
         held = refl;

@@ -13,6 +13,7 @@ use Rattle.scan.specs.Lists.{all}
 use Rattle.aim.specs.declared.Method.the-variants.{Options, Teardown}
 use Rattle.refusals.specs.declared.Refusal.the-variants as refusal
 use Rattle.reader.specs.Request.{methodOf, requestRefusal}
+use Rattle.journal.specs.Bytes.{recordSize}
 use Rattle.journal.specs.Calls.{readAt}
 use Rattle.journal.specs.declared.Record.{Record}
 use Rattle.journal.specs.declared.Reading.the-variants.{Sound}
@@ -22,6 +23,7 @@ use Rattle.table.specs.Formed.{wellFormed}
 use Rattle.finding.specs.Finding.{isHeld}
 use Rattle.table.specs.Made.{fresh}
 use Rattle.table.specs.declared.Session.{Session}
+use Rattle.table.specs.declared.Settings.{Settings}
 use Rattle.table.specs.declared.SatBox.{SatBox}
 use Rattle.table.specs.declared.Outcome.the-variants.{Done}
 use Rattle.steps.specs.Asked.{askedOf, listsOf}
@@ -36,7 +38,8 @@ use Rattle.lives.specs.Calls.{Lent, Call, request, order, refusedBy, lac
 use Rattle.lives.specs.Closed.{Closed, isClosingOf, isTimeOut, Fares, placeNamedBy, KeepsAlive, Sweeps, Stays, TearsDown, Ends, saysClosed, saysOpened, unnumbered, sweepClosings, teardownClosings, PassesElse}
 use Rattle.lives.specs.Audit.{letGo, isHeldBy, audited, holds, Quiet, Notes, Leads, LetGo}
 use Rattle.lives.proofs.Journals.{counts-at, counts-next}
-use Rattle.lives.proofs.Running.{live-good, after-good, swept-fed, swept-sized}
+use Rattle.lives.proofs.Holding.{sized}
+use Rattle.lives.proofs.Running.{live-good, after-good, swept-set}
 use Rattle.lives.proofs.Refusals.{call-gated}
 use Rattle.lives.proofs.Young.{young-after, after-young}
 use Rattle.lives.proofs.Hearing.{hears-late, kept-hears, kept-fares}
@@ -51,11 +54,11 @@ use Rattle.lives.proofs.OpenCounts.{note-moves-one, quiet-moves-none, l
 use Rattle.lives.proofs.ReadingBack.{read-back, after-fit}
 use Rattle.lives.proofs.Rooms.{refused-exactly, passed-exactly}
 
-module _ (frontends size : ℕ) (j : List ℕ) (cs : List Call) where
+module _ (settings : Settings) (j : List ℕ) (cs : List Call) where
   abbrev x : Life
-  x = after frontends size j cs
+  x = after settings j cs
 
-  module _ (h : Lives frontends size j cs) where
+  module _ (h : Lives settings j cs) where
     -- 1. EVERY REACHABLE BOX IS WELL FORMED (`table/specs/Formed.wellFormed`),
     pub well-formed : wellFormed (x .satbox) ≡ true
     well-formed = whole-formed (x .satbox) (after-good h .whole)
@@ -65,13 +68,17 @@ module _ (frontends size : ℕ) (j : List ℕ) (cs : List Call) where
     never-refused-by-1 c = call-gated x well-formed c .0
 
     -- and with 2 exactly if it is lent a journal of another length (`lacksJournal`)
-    pub refused-by-2-for-length : (c : Call) → (refusedBy (live c x .outcome) ≡ 2) ↔ (lacksJournal size c (x .journal) ≡ true)
+    pub refused-by-2-for-length : (c : Call) → (refusedBy (live c x .outcome) ≡ 2) ↔ (lacksJournal (settings .size) c (x .journal) ≡ true)
     refused-by-2-for-length c =
-        rw (after-good h .sized) at (call-gated x well-formed c .1)
+        rw (sized (after-good h)) at (call-gated x well-formed c .1)
 
     -- and the box's own journal never is
-    pub journal-has-its-length : length (x .journal) ≡ size
+    pub journal-has-its-length : length (x .journal) ≡ settings .size
     journal-has-its-length = after-good h .journal
+
+    -- What is fixed when a box is made, F and C, no call moves (`proofs/Settings.settings-stay` says it of each call)
+    pub settings-stay : x .satbox .settings ≡ settings
+    settings-stay = after-good h .set
 
     -- 2. THE JOURNAL'S FIRST BYTES HELD ARE EXACTLY THE RECORDS, in order, of the openings and closings since the last collection: `since`, which
     -- the rules give for each call (`records`) and which is not read off the bytes held; their bytes are `bytesOf`,
@@ -79,7 +86,7 @@ module _ (frontends size : ℕ) (j : List ℕ) (cs : List Call) where
     journal-holds-the-records = after-good h .text
 
     -- 16 bytes each,
-    pub sixteen-bytes-each : x .satbox .held ≡ 16 * length (x .since)
+    pub sixteen-bytes-each : x .satbox .held ≡ recordSize * length (x .since)
     sixteen-bytes-each = after-good h .held
 
     -- and the sequence numbers run on over collections and wrap: each record has its place in the whole history (`history`), modulo 65,536,
@@ -92,13 +99,13 @@ module _ (frontends size : ℕ) (j : List ℕ) (cs : List Call) where
     sequence-to-come = counts-next 0 (x .satbox .sequence) (x .history) (omega arith) (after-good h .sequence) ∙ omega arith
 
     -- A call's own records stand behind those of the calls before it (`live`: `since` is those that are not collected by it, and then its own)
-    pub call-writes-its-records : (c : Call) → isCall size c ≡ true → take (live c x .satbox .held) (live c x .journal) ≡ bytesOf (live c x .since)
+    pub call-writes-its-records : (c : Call) → isCall (settings .size) c ≡ true → take (live c x .satbox .held) (live c x .journal) ≡ bytesOf (live c x .since)
     unfolding live
     call-writes-its-records c e = live-good (after-good h) c e .text
 
     -- 3. BYTES HELD PLUS 16 FOR EACH OPEN SESSION NEVER EXCEED C
-    pub room-for-every-closing : x .satbox .held + 16 * opens (x .satbox) ≤ size
-    room-for-every-closing = omega (arith, after-good h .whole .formed .fits .bound, after-good h .sized)
+    pub room-for-every-closing : x .satbox .held + recordSize * opens (x .satbox) ≤ settings .size
+    room-for-every-closing = omega (arith, after-good h .whole .formed .fits .bound, sized (after-good h))
 
     -- 4. NO CLOSING IS EVER HELD BACK, in a request or a tick at any clock (`Sweeps`) that was not refused by number: of the sessions open before it
     module _ (clock : ℕ) (c : Call) (sweeps : Sweeps clock c) (done : live c x .outcome ≡ Done) where
@@ -182,7 +189,7 @@ module _ (frontends size : ℕ) (j : List ℕ) (cs : List Call) where
       abbrev kept : Session
       kept = sessionAt (sweeping clock (x .satbox) .satbox) seat
 
-      module _ (calls : all (isCall size) (options ∷ ds) ≡ true) (done : live options x .outcome ≡ Done) (keep : methodOf s ≡ Options)
+      module _ (calls : all (isCall (settings .size)) (options ∷ ds) ≡ true) (done : live options x .outcome ≡ Done) (keep : methodOf s ≡ Options)
           (passed : isPassed (requested s clock address draw (x .satbox) .case) ≡ true) (named : seat < 32) where
         -- is not closed for its age before the clock used plus 60: each record of those others that says so (`isTimeOut`) has that clock or a later one,
         pub kept-is-not-timed-out : (i : ℕ) (past : Record) → i < length (recordsOf ds y) → isTimeOut (kept .number) (getD (recordsOf ds y) i past) ≡ true
@@ -194,7 +201,7 @@ module _ (frontends size : ℕ) (j : List ℕ) (cs : List Call) where
         kept-stays = kept-fares (after-good h) s clock address draw b l done keep passed named ds calls
 
     -- WHO IS NOT: an open session, after any calls of which none is an OPTIONS that has its number (`KeepsAlive`; past their last there is an order)
-    module _ (i : ℕ) (some : isOpen (sessionAt (x .satbox) i) ≡ true) (ds : List Call) (calls : all (isCall size) ds ≡ true)
+    module _ (i : ℕ) (some : isOpen (sessionAt (x .satbox) i) ≡ true) (ds : List Call) (calls : all (isCall (settings .size)) ds ≡ true)
         (unkept : (k : ℕ) → KeepsAlive (sessionAt (x .satbox) i .number) (getD ds k (order 0)) → ⊥) where
       -- is open at its place, with the last time that it had, or one of the records says that it closed,
       pub unkept-stays : Fares (sessionAt (x .satbox) i .number) i (λ last. last ≡ sessionAt (x .satbox) i .last) (run ds x .satbox) (recordsOf ds x)
@@ -211,16 +218,16 @@ module _ (frontends size : ℕ) (j : List ℕ) (cs : List Call) where
       abbrev u : SatBox
       u = sweeping clock (x .satbox) .satbox
 
-      module _ (read : requestRefusal frontends s ≡ refusal.Passed) (else : PassesElse u (askedOf frontends s) (listsOf s)) where
+      module _ (read : requestRefusal (settings .frontends) s ≡ refusal.Passed) (else : PassesElse u (askedOf (settings .frontends) s) (listsOf s)) where
         -- is refused for journal room, step 18, exactly if bytes held, plus 16 for each open session, plus 32, exceed C; both directions
-        pub refused-for-room : (requested s clock address draw (x .satbox) .case ≡ Full) ↔ (size < u .held + 16 * opens u + 32)
+        pub refused-for-room : (requested s clock address draw (x .satbox) .case ≡ Full) ↔ (settings .size < u .held + recordSize * opens u + 2 * recordSize)
         unfolding requested
-        refused-for-room = refused-exactly frontends size s address draw u (swept-fed h clock) (swept-sized h clock) read else
+        refused-for-room = refused-exactly settings s address draw u (swept-set h clock) read else
 
         -- and else it passes
-        pub passed-with-room : u .held + 16 * opens u + 32 ≤ size → requested s clock address draw (x .satbox) .case ≡ Passed
+        pub passed-with-room : u .held + recordSize * opens u + 2 * recordSize ≤ settings .size → requested s clock address draw (x .satbox) .case ≡ Passed
         unfolding requested
-        passed-with-room = passed-exactly frontends size s address draw u (swept-fed h clock) (swept-sized h clock) read else
+        passed-with-room = passed-exactly settings s address draw u (swept-set h clock) read else
 
     -- 6. WHAT WAS COLLECTED, JOINED (`gathered`), FOLLOWED BY WHAT IS HELD, IS THE WHOLE HISTORY'S RECORDS: nothing is lost or written twice
     pub collected-and-held : x .gathered ++ take (x .satbox .held) (x .journal) ≡ bytesOf (x .history)
@@ -249,13 +256,13 @@ module _ (frontends size : ℕ) (j : List ℕ) (cs : List Call) where
     owner-of-each = leads-agree (after-leads h) .same
 
     -- and for each that let go, when: at that record the table's session let it go, at that clock of the table (`LetGo`)
-    pub when-let-go : (f n clock : ℕ) → (f ≡ 0 → ⊥) → audited f (x .history) ≡ letGo n clock → LetGo [] (fresh frontends size) (x .history) (x .satbox) f n clock
+    pub when-let-go : (f n clock : ℕ) → (f ≡ 0 → ⊥) → audited f (x .history) ≡ letGo n clock → LetGo [] (fresh settings) (x .history) (x .satbox) f n clock
     when-let-go f n clock z e = let-go f n clock z (λ q. never-let-go q) (after-leads h) e
 
     -- AT EVERY RECORD these agree with the table at that moment: the life is a chain of tables from the fresh box to this one (`Leads`). Each record is
     -- written by one step of it, which is an opening or a closing in the table (`Notes`); no other step opens or closes anything (`Quiet`); and after
     -- each step the history so far and the table agree (`Agree`)
-    pub agree-at-every-record : Leads [] (fresh frontends size) (x .history) (x .satbox)
+    pub agree-at-every-record : Leads [] (fresh settings) (x .history) (x .satbox)
     agree-at-every-record = after-leads h
 
     -- no record is of nobody: the step that writes one opens one session more or closes one, no other step does, and so as many are open as the
@@ -270,5 +277,5 @@ module _ (frontends size : ℕ) (j : List ℕ) (cs : List Call) where
     open-are-the-opened-and-not-closed = omega (arith, leads-count (after-leads h))
 
     -- and so is each call of it, from the box before it to the box after it
-    pub agree-within-a-call : (c : Call) → isCall size c ≡ true → Leads (x .history) (x .satbox) (live c x .history) (live c x .satbox)
+    pub agree-within-a-call : (c : Call) → isCall (settings .size) c ≡ true → Leads (x .history) (x .satbox) (live c x .history) (live c x .satbox)
     agree-within-a-call c e = live-leads (after-good h) (leads-agree (after-leads h)) c e

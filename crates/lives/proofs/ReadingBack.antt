@@ -15,6 +15,7 @@ use Rattle.journal.specs.Calls.{readBytes, readAt, writeOf}
 use Rattle.journal.specs.declared.Record.{Record}
 use Rattle.journal.specs.declared.Reading.the-variants.{Sound}
 use Rattle.journal.proofs.RoundTrip.{Fitting, written-read}
+use Rattle.table.specs.declared.Settings.{Settings}
 use Rattle.table.specs.Table.{noSession, sessionAt}
 use Rattle.table.specs.declared.Session.{Session}
 use Rattle.table.specs.declared.Outcome.{Outcome}
@@ -83,7 +84,7 @@ record Fitted (x : Life) : Type 0 where
 fit-nothing : (rs : List Record) → all isFit rs ≡ true → all isFit (rs ++ []) ≡ true
 fit-nothing rs e = rw append-nil e
 
-module _ {frontends size : ℕ} {x : Life} (g : Good frontends size x) (f : Fitted x) where
+module _ {settings : Settings} {x : Life} (g : Good settings x) (f : Fitted x) where
   short : Short (x .satbox)
   short = record { clock = g .clock; numbers = f .numbers }
 
@@ -101,7 +102,7 @@ module _ {frontends size : ℕ} {x : Life} (g : Good frontends size x) (f : Fitt
   emptied-numbers Done k = f .numbers k
   emptied-numbers (Refused r) k = f .numbers k
 
-  live-fitted : (c : Call) → isCall size c ≡ true → Fitted (live c x)
+  live-fitted : (c : Call) → isCall (settings .size) c ≡ true → Fitted (live c x)
   unfolding live replied ticked collected Fitted-by
   live-fitted (request s clock address draw b l) e =
       let p = and-both (isShort clock) _ e in
@@ -115,10 +116,10 @@ module _ {frontends size : ℕ} {x : Life} (g : Good frontends size x) (f : Fitt
       record { numbers = emptied-numbers (collectOutcome (x .satbox) (lent l (x .journal)) b); fit = fit-nothing (x .history) (f .fit) }
   live-fitted (order n) e = record { numbers = f .numbers; fit = fit-nothing (x .history) (f .fit) }
 
-run-fitted : {frontends size : ℕ} (cs : List Call) {x : Life} → all (isCall size) cs ≡ true → Good frontends size x → Fitted x → Fitted (run cs x)
+run-fitted : {settings : Settings} (cs : List Call) {x : Life} → all (isCall (settings .size)) cs ≡ true → Good settings x → Fitted x → Fitted (run cs x)
 run-fitted [] e g f = f
-run-fitted {size = size} (c ∷ cs) e g f =
-    let p = and-both (isCall size c) _ e in
+run-fitted {settings = settings} (c ∷ cs) e g f =
+    let p = and-both (isCall (settings .size) c) _ e in
     run-fitted cs (p .1) (live-good g c (p .0)) (live-fitted g f c (p .0))
 
 pub free-place : (n k : ℕ) → getD (replicate n noSession) k noSession ≡ noSession
@@ -126,10 +127,10 @@ free-place zero k = refl
 free-place (suc n) zero = refl
 free-place (suc n) (suc k) = free-place n k
 
-born-fitted : (frontends size : ℕ) (j : List ℕ) → Fitted (after frontends size j [])
-born-fitted frontends size j =
+born-fitted : (settings : Settings) (j : List ℕ) → Fitted (after settings j [])
+born-fitted settings j =
     record { numbers = λ k. subst (λ (s : Session). s .number < 4294967296) (sym (free-place 32 k)) (omega arith); fit = refl }
 
-pub after-fit : {frontends size : ℕ} {j : List ℕ} {cs : List Call} → Lives frontends size j cs → all isFit (after frontends size j cs .history) ≡ true
-after-fit {frontends} {size} {j} {cs} h =
-    run-fitted cs (h .calls) (born-good frontends size j (h .sizes) (h .journal)) (born-fitted frontends size j) .fit
+pub after-fit : {settings : Settings} {j : List ℕ} {cs : List Call} → Lives settings j cs → all isFit (after settings j cs .history) ≡ true
+after-fit {settings} {j} {cs} h =
+    run-fitted cs (h .calls) (born-good settings j (h .sizes) (h .journal)) (born-fitted settings j) .fit

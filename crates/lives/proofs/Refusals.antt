@@ -55,7 +55,7 @@ order-past : (t : SatBox) (n : ℕ) → wellFormed t ≡ true → Ordered-past (
 unfolding orderOf orderFor orderAt
 order-past t n f =
     rw f
-    (cond-keeps Ordered-past (isBetween 1 (t .frontends) n) _ _
+    (cond-keeps Ordered-past (isBetween 1 (t .settings .frontends) n) _ _
     (λ e. cond-keeps Ordered-past (ltb (first (isFed n) (t .streams)) (length (t .streams))) _ _
     (λ h. cond-keeps Ordered-past (any (playsAsOwner (suc (first (isFed n) (t .streams)))) (t .sessions) && areComplete (streamOf t (suc (first (isFed n) (t .streams))) .values)) _ _ (λ y. past-done) (λ y. past-done))
     (λ h. past-done))
@@ -63,7 +63,7 @@ order-past t n f =
 
 -- EVERY CALL
 module _ (x : Life) (f : wellFormed (x .satbox) ≡ true) where
-  pub call-gated : (c : Call) → Gated (lacksJournal (x .satbox .size) c (x .journal)) (live c x .outcome)
+  pub call-gated : (c : Call) → Gated (lacksJournal (x .satbox .settings .size) c (x .journal)) (live c x .outcome)
   unfolding live replied ticked collected
   call-gated (request s clock address draw b l) =
       gated (wellFormed (x .satbox)) (isJournal (x .satbox) (lent l (x .journal))) _ f (last-test (not (ltb (length b) 4096)) Answer (λ e. omega arith, λ e. omega arith))

@@ -99,7 +99,7 @@ module _ (t : SatBox) (a : Asked) (l : Lists) (client : Client) (w : Whole t) (R
 -- EVERY REQUEST, on a table that was swept
 pub answered-holds : (s : List ℕ) (address draw : ℕ) (t : SatBox) → Whole t → (R : Did → Type 0) → Steps t (methodOf s) draw R → R (answered s address draw t .did)
 answered-holds s address draw t w R k =
-    let a = askedOf (t .frontends) s in
+    let a = askedOf (t .settings .frontends) s in
     let client = clientOf address draw a in
     answered-by s address draw t (λ (x : Serving). R (x .did))
     (λ e. served-by t a (listsOf s) client (λ (x : Serving). R (x .did)) (λ p q. grant-holds t a (listsOf s) client w R k p (a .method) refl) (λ n. k .still))

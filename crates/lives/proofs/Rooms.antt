@@ -13,6 +13,7 @@ use Rattle.aim.specs.declared.Method.the-variants.{Options, Setup, Play, Teardo
 use Rattle.refusals.specs.declared.Refusal.the-variants as refusal
 use Rattle.reader.specs.Request.{requestRefusal}
 use Rattle.table.specs.Table.{opens, streamOf, isLive}
+use Rattle.table.specs.declared.Settings.{Settings}
 use Rattle.table.specs.declared.SatBox.{SatBox}
 use Rattle.refusals.specs.Refusals.{_refuses_or_}
 use Rattle.steps.specs.Asked.{Asked, Lists, askedOf, listsOf}
@@ -66,35 +67,35 @@ module _ (t : SatBox) (a : Asked) (l : Lists) (p : PassesElse t a l) where
 full-not-passed : {c : Case} → c ≡ Full → c ≡ Passed → ⊥
 full-not-passed p q = let z : _≡_ {A = ℕ} 0 1 = cc in omega arith
 
-module _ (s : List ℕ) (address draw : ℕ) (t : SatBox) (read : requestRefusal (t .frontends) s ≡ refusal.Passed) (p : PassesElse t (askedOf (t .frontends) s) (listsOf s)) where
-  answered-is : answered s address draw t ≡ served t (askedOf (t .frontends) s) (listsOf s) (clientOf address draw (askedOf (t .frontends) s))
+module _ (s : List ℕ) (address draw : ℕ) (t : SatBox) (read : requestRefusal (t .settings .frontends) s ≡ refusal.Passed) (p : PassesElse t (askedOf (t .settings .frontends) s) (listsOf s)) where
+  answered-is : answered s address draw t ≡ served t (askedOf (t .settings .frontends) s) (listsOf s) (clientOf address draw (askedOf (t .settings .frontends) s))
   unfolding answered
   answered-is = rw read
 
-  without-room : t .size < t .held + 16 * opens t + 32 → answered s address draw t .case ≡ Full
+  without-room : t .settings .size < t .held + 16 * opens t + 32 → answered s address draw t .case ≡ Full
   without-room h =
       ap (λ (x : Serving). x .case) answered-is
-      ∙ full-case t (askedOf (t .frontends) s) (listsOf s) p (clientOf address draw (askedOf (t .frontends) s)) (lt-leb (t .held + 16 * opens t + 32) (t .size) h)
+      ∙ full-case t (askedOf (t .settings .frontends) s) (listsOf s) p (clientOf address draw (askedOf (t .settings .frontends) s)) (lt-leb (t .held + 16 * opens t + 32) (t .settings .size) h)
 
-  with-room : t .held + 16 * opens t + 32 ≤ t .size → answered s address draw t .case ≡ Passed
+  with-room : t .held + 16 * opens t + 32 ≤ t .settings .size → answered s address draw t .case ≡ Passed
   with-room h =
       ap (λ (x : Serving). x .case) answered-is
-      ∙ passed-case t (askedOf (t .frontends) s) (listsOf s) p (clientOf address draw (askedOf (t .frontends) s)) (le-leb (t .held + 16 * opens t + 32) (t .size) h)
+      ∙ passed-case t (askedOf (t .settings .frontends) s) (listsOf s) p (clientOf address draw (askedOf (t .settings .frontends) s)) (le-leb (t .held + 16 * opens t + 32) (t .settings .size) h)
 
-  room-exactly : (answered s address draw t .case ≡ Full) ↔ (t .size < t .held + 16 * opens t + 32)
+  room-exactly : (answered s address draw t .case ≡ Full) ↔ (t .settings .size < t .held + 16 * opens t + 32)
   room-exactly =
-      (λ e. by-cases (decLt (t .size) (t .held + 16 * opens t + 32)) (λ h. h) (λ h. absurd (full-not-passed e (with-room (omega arith)))), without-room)
+      (λ e. by-cases (decLt (t .settings .size) (t .held + 16 * opens t + 32)) (λ h. h) (λ h. absurd (full-not-passed e (with-room (omega arith)))), without-room)
 
--- the same of a swept box t with so many frontends and so large a journal
-module _ (frontends size : ℕ) (s : List ℕ) (address draw : ℕ) (t : SatBox) (f : t .frontends ≡ frontends) (z : t .size ≡ size) where
-  pub refused-exactly : requestRefusal frontends s ≡ refusal.Passed → PassesElse t (askedOf frontends s) (listsOf s)
-      → (answered s address draw t .case ≡ Full) ↔ (size < t .held + 16 * opens t + 32)
+-- the same of a swept box t whose frontends and journal's size are known
+module _ (settings : Settings) (s : List ℕ) (address draw : ℕ) (t : SatBox) (e : t .settings ≡ settings) where
+  pub refused-exactly : requestRefusal (settings .frontends) s ≡ refusal.Passed → PassesElse t (askedOf (settings .frontends) s) (listsOf s)
+      → (answered s address draw t .case ≡ Full) ↔ (settings .size < t .held + 16 * opens t + 32)
   refused-exactly =
-      subst (λ n. requestRefusal n s ≡ refusal.Passed → PassesElse t (askedOf n s) (listsOf s) → (answered s address draw t .case ≡ Full) ↔ (size < t .held + 16 * opens t + 32)) f
-      (λ read p. let q = room-exactly s address draw t read p in (λ e. omega (arith, q .0 e), λ h. q .1 (omega arith)))
+      subst (λ (r : Settings). requestRefusal (r .frontends) s ≡ refusal.Passed → PassesElse t (askedOf (r .frontends) s) (listsOf s) → (answered s address draw t .case ≡ Full) ↔ (r .size < t .held + 16 * opens t + 32)) e
+      (room-exactly s address draw t)
 
-  pub passed-exactly : requestRefusal frontends s ≡ refusal.Passed → PassesElse t (askedOf frontends s) (listsOf s)
-      → t .held + 16 * opens t + 32 ≤ size → answered s address draw t .case ≡ Passed
+  pub passed-exactly : requestRefusal (settings .frontends) s ≡ refusal.Passed → PassesElse t (askedOf (settings .frontends) s) (listsOf s)
+      → t .held + 16 * opens t + 32 ≤ settings .size → answered s address draw t .case ≡ Passed
   passed-exactly =
-      subst (λ n. requestRefusal n s ≡ refusal.Passed → PassesElse t (askedOf n s) (listsOf s) → t .held + 16 * opens t + 32 ≤ size → answered s address draw t .case ≡ Passed) f
-      (λ read p h. with-room s address draw t read p (omega arith))
+      subst (λ (r : Settings). requestRefusal (r .frontends) s ≡ refusal.Passed → PassesElse t (askedOf (r .frontends) s) (listsOf s) → t .held + 16 * opens t + 32 ≤ r .size → answered s address draw t .case ≡ Passed) e
+      (with-room s address draw t)

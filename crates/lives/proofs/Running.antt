@@ -8,6 +8,7 @@ use borrow.Author.Tests.{ltb-true, not-true}
 use Rattle.scan.specs.Lists.{all}
 use Rattle.scan.proofs.Bools.{never, and-both}
 use Rattle.table.specs.Formed.{wellFormed}
+use Rattle.table.specs.declared.Settings.{Settings}
 use Rattle.table.specs.declared.SatBox.{SatBox}
 use Rattle.table.specs.declared.Refusal.{Refusal}
 use Rattle.table.specs.declared.Refusal.the-variants.{Table, Journal}
@@ -25,7 +26,7 @@ use Rattle.promises.proofs.Reading.{request-whole, request-recorded}
 use Rattle.promises.proofs.Written.{Counted, requested-counted}
 use Rattle.lives.specs.Calls.{own, other, Call, request, tick, collect, order, isShort, isLent, isCall, Life, live, run, Lives, after}
 use Rattle.lives.proofs.Settings.{sweeping-set, requested-set}
-use Rattle.lives.proofs.Holding.{Good, born-good, Works, worked, emptiedInto, same-good, worked-good, collected-good}
+use Rattle.lives.proofs.Holding.{Good, sized, born-good, Works, worked, emptiedInto, same-good, worked-good, collected-good}
 
 -- a call that is lent other bytes than the box's journal, of another length, is refused
 pub refused-away : (P : Outcome → Type 0) (a b : Bool) (o : Outcome) → b ≡ false → ((r : Refusal) → P (Refused r)) → P (a else Table andThen b else Journal andThen o)
@@ -33,7 +34,7 @@ refused-away P true true o e h = never refl e
 refused-away P true false o e h = h Journal
 refused-away P false b o e h = h Table
 
-not-lent : (size : ℕ) (t : SatBox) (k : List ℕ) → t .size ≡ size → isLent size (other k) ≡ true → isJournal t k ≡ false
+not-lent : (size : ℕ) (t : SatBox) (k : List ℕ) → t .settings .size ≡ size → isLent size (other k) ≡ true → isJournal t k ≡ false
 not-lent size t k e h = rw e (not-true _ h)
 
 sweeping-counted : (clock : ℕ) (t : SatBox) → Whole t → Counted t (sweeping clock t)
@@ -43,7 +44,7 @@ sweeping-counted clock t w =
     record { held = swept-fine (atClock clock t) r .held; sequence = swept-numbered (atClock clock t) r }
 
 -- EACH CALL
-module _ {frontends size : ℕ} {x : Life} (g : Good frontends size x) where
+module _ {settings : Settings} {x : Life} (g : Good settings x) where
   sweeping-works : (clock : ℕ) → isShort clock ≡ true → Works (x .satbox) (sweeping clock (x .satbox))
   sweeping-works clock h =
       let t = x .satbox in
@@ -52,8 +53,7 @@ module _ {frontends size : ℕ} {x : Life} (g : Good frontends size x) where
         whole = sweeping-whole clock t (g .whole);
         counted = sweeping-counted clock t (g .whole);
         recorded = swept-recorded (atClock clock t) (clock-whole clock t (g .whole));
-        size = f .size;
-        frontends = f .frontends;
+        settings = f .settings;
         clock = omega (arith, f .clock, g .clock, ltb-true clock 4294967296 h);
       }
 
@@ -66,12 +66,11 @@ module _ {frontends size : ℕ} {x : Life} (g : Good frontends size x) where
         whole = request-whole s clock address draw d t (g .whole);
         counted = requested-counted s address draw clock t (g .whole);
         recorded = request-recorded s clock address draw d t (g .whole);
-        size = f .size;
-        frontends = f .frontends;
+        settings = f .settings;
         clock = omega (arith, f .clock, g .clock, ltb-true clock 4294967296 h);
       }
 
-  pub live-good : (c : Call) → isCall size c ≡ true → Good frontends size (live c x)
+  pub live-good : (c : Call) → isCall (settings .size) c ≡ true → Good settings (live c x)
   unfolding live replied repliedJournal ticked tickedJournal collected collectedInto
   live-good (request s clock address draw b own) e =
       let p = and-both (isShort clock) _ e in
@@ -80,32 +79,29 @@ module _ {frontends size : ℕ} {x : Life} (g : Good frontends size x) where
   live-good (request s clock address draw b (other k)) e =
       let p = and-both (isShort clock) _ e in
       let q = and-both (isShort draw) _ (and-both (isShort address) _ (p .1) .1) in
-      refused-away (λ (o : Outcome). Good frontends size (worked (other k) o (requested s clock address draw (x .satbox) .did) x)) (wellFormed (x .satbox)) (isJournal (x .satbox) k) _
-      (not-lent size (x .satbox) k (g .sized) (q .1)) (λ r. same-good g)
+      refused-away (λ (o : Outcome). Good settings (worked (other k) o (requested s clock address draw (x .satbox) .did) x)) (wellFormed (x .satbox)) (isJournal (x .satbox) k) _
+      (not-lent (settings .size) (x .satbox) k (sized g) (q .1)) (λ r. same-good g)
   live-good (tick clock own) e =
       worked-good g (tickOutcome (x .satbox) (x .journal)) (sweeping clock (x .satbox)) (sweeping-works clock (and-both (isShort clock) _ e .0))
   live-good (tick clock (other k)) e =
-      refused-away (λ (o : Outcome). Good frontends size (worked (other k) o (sweeping clock (x .satbox)) x)) (wellFormed (x .satbox)) (isJournal (x .satbox) k) _
-      (not-lent size (x .satbox) k (g .sized) (and-both (isShort clock) _ e .1)) (λ r. same-good g)
+      refused-away (λ (o : Outcome). Good settings (worked (other k) o (sweeping clock (x .satbox)) x)) (wellFormed (x .satbox)) (isJournal (x .satbox) k) _
+      (not-lent (settings .size) (x .satbox) k (sized g) (and-both (isShort clock) _ e .1)) (λ r. same-good g)
   live-good (collect b own) e =
       collected-good g (collectOutcome (x .satbox) (x .journal) b) b (collect-whole (x .satbox) (x .journal) b (g .whole))
   live-good (collect b (other k)) e =
-      refused-away (λ (o : Outcome). Good frontends size (emptiedInto (other k) o b x)) (wellFormed (x .satbox)) (isJournal (x .satbox) k) _
-      (not-lent size (x .satbox) k (g .sized) e) (λ r. same-good g)
+      refused-away (λ (o : Outcome). Good settings (emptiedInto (other k) o b x)) (wellFormed (x .satbox)) (isJournal (x .satbox) k) _
+      (not-lent (settings .size) (x .satbox) k (sized g) e) (λ r. same-good g)
   live-good (order n) e = same-good g
 
 -- ALL OF THEM
-run-good : {frontends size : ℕ} (cs : List Call) {x : Life} → all (isCall size) cs ≡ true → Good frontends size x → Good frontends size (run cs x)
+run-good : {settings : Settings} (cs : List Call) {x : Life} → all (isCall (settings .size)) cs ≡ true → Good settings x → Good settings (run cs x)
 run-good [] e g = g
-run-good {size = size} (c ∷ cs) e g = let p = and-both (isCall size c) _ e in run-good cs (p .1) (live-good g c (p .0))
+run-good {settings = settings} (c ∷ cs) e g = let p = and-both (isCall (settings .size) c) _ e in run-good cs (p .1) (live-good g c (p .0))
 
-pub after-good : {frontends size : ℕ} {j : List ℕ} {cs : List Call} → Lives frontends size j cs → Good frontends size (after frontends size j cs)
-after-good {frontends} {size} {j} {cs} h = run-good cs (h .calls) (born-good frontends size j (h .sizes) (h .journal))
+pub after-good : {settings : Settings} {j : List ℕ} {cs : List Call} → Lives settings j cs → Good settings (after settings j cs)
+after-good {settings} {j} {cs} h = run-good cs (h .calls) (born-good settings j (h .sizes) (h .journal))
 
 -- and the box after expired sessions are closed has its frontends and its size still
-module _ {frontends size : ℕ} {j : List ℕ} {cs : List Call} (h : Lives frontends size j cs) (clock : ℕ) where
-  pub swept-fed : sweeping clock (after frontends size j cs .satbox) .satbox .frontends ≡ frontends
-  swept-fed = sweeping-set clock (after frontends size j cs .satbox) (after-good h .whole) .frontends ∙ after-good h .fed
-
-  pub swept-sized : sweeping clock (after frontends size j cs .satbox) .satbox .size ≡ size
-  swept-sized = sweeping-set clock (after frontends size j cs .satbox) (after-good h .whole) .size ∙ after-good h .sized
+module _ {settings : Settings} {j : List ℕ} {cs : List Call} (h : Lives settings j cs) (clock : ℕ) where
+  pub swept-set : sweeping clock (after settings j cs .satbox) .satbox .settings ≡ settings
+  swept-set = sweeping-set clock (after settings j cs .satbox) (after-good h .whole) .settings ∙ after-good h .set

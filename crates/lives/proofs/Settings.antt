@@ -1,4 +1,4 @@
--- No call changes a box's frontends or its journal's size, and the clock is the larger of the box's and the call's. Assumes nothing.
+-- No call moves what is fixed when a box is made, and the clock is the larger of the box's and the call's. Assumes nothing.
 use mathlib.Core.Path.{_≡_, refl, _∙_}
 use mathlib.Core.List.{List}
 use Prim.Native.Nat.{ℕ, max}
@@ -7,59 +7,62 @@ use Rattle.stream.specs.declared.Stream.{Stream}
 use Rattle.finding.specs.Finding.{lowestId}
 use Rattle.table.specs.declared.Session.{Session}
 use Rattle.table.specs.declared.SatBox.{SatBox}
+use Rattle.table.specs.declared.Outcome.{Outcome}
+use Rattle.table.specs.declared.Outcome.the-variants.{Done, Refused}
 use Rattle.closings.specs.Did.{Did, nothing, restreamed, reseated, noting}
 use Rattle.closings.specs.Does.{Closable}
 use Rattle.closings.specs.Closing.{closing, sweeping, atClock}
 use Rattle.serving.specs.Opening.{guest, seating as seated, canJoin, joining, canOpen, opening}
 use Rattle.serving.specs.Serving.{replaced, answered}
-use Rattle.satbox.specs.Requests.{requested}
+use Rattle.satbox.specs.Calls.{ifDone, tickOutcome, emptied, ticked, collectOutcome, collected}
+use Rattle.satbox.specs.Requests.{requestOutcome, requested, replied}
 use Rattle.serving.specs.declared.opening.Client.{Client}
 use Rattle.closings.proofs.Closings.{closing-fine, swept-fine}
 use Rattle.closings.proofs.Keeping.{Whole, whole-roomy, clock-whole}
 use Rattle.satbox.proofs.Kept.{sweeping-whole}
+use Rattle.lives.specs.Calls.{Lent, Call, request, tick, collect, order, lent, Life, live}
 use Rattle.lives.proofs.Requests.{Retuned, as-it-was, merged, answered-holds}
 
--- u is a box of t's frontends and size, at a clock
+-- u is a box of t's settings, at a clock
 pub record Set (t : SatBox) (now : ℕ) (u : SatBox) : Type 0 where
-  pub size : u .size ≡ t .size
-  pub frontends : u .frontends ≡ t .frontends
+  pub settings : u .settings ≡ t .settings
   pub clock : u .clock ≡ now
 
 abbrev Sets : SatBox → Did → Type 0
 Sets t d = Set t (t .clock) (d .satbox)
 
 same-set : (t : SatBox) → Set t (t .clock) t
-same-set t = record { size = refl; frontends = refl; clock = refl }
+same-set t = record { settings = refl; clock = refl }
 
 -- A SWEEP
 pub sweeping-set : (clock : ℕ) (t : SatBox) → Whole t → Set t (max (t .clock) clock) (sweeping clock t .satbox)
 unfolding atClock
 sweeping-set clock t w =
     let f = swept-fine (atClock clock t) (whole-roomy (atClock clock t) (clock-whole clock t w)) in
-    record { size = f .size; frontends = f .frontends; clock = f .clock }
+    record { settings = f .settings; clock = f .clock }
 
 -- AN OPENING
 joining-set : (id : ℕ) (client : Client) (t : SatBox) → Sets t (joining id client t)
 unfolding joining seated noting reseated
 joining-set id client t =
     cond-keeps (Sets t) (canJoin id t) (seated 2 (guest 0 id client t) t) (nothing t)
-    (λ e. record { size = refl; frontends = refl; clock = refl }) (λ e. same-set t)
+    (λ e. record { settings = refl; clock = refl }) (λ e. same-set t)
 
 opening-set : (m : Stream) (client : Client) (t : SatBox) → Sets t (opening m client t)
 unfolding opening seated noting reseated restreamed
 opening-set m client t =
     let id = lowestId (t .streams) in
     cond-keeps (Sets t) (canOpen (m .frontend) t) (seated 1 (guest 1 id client t) (restreamed id m t)) (nothing t)
-    (λ e. record { size = refl; frontends = refl; clock = refl }) (λ e. same-set t)
+    (λ e. record { settings = refl; clock = refl }) (λ e. same-set t)
 
 -- A SESSION CHANGED in its place, with a query merged or not
 changed-set : {t u : SatBox} (place : ℕ) (s : Session) → Retuned t u → Sets t (nothing (replaced place s u))
 unfolding replaced restreamed
-changed-set place s as-it-was = record { size = refl; frontends = refl; clock = refl }
-changed-set place s (merged id m e) = record { size = refl; frontends = refl; clock = refl }
+changed-set place s as-it-was = record { settings = refl; clock = refl }
+changed-set place s (merged id m e) = record { settings = refl; clock = refl }
 
 closing-set : (place : ℕ) (t : SatBox) → Closable t place → Sets t (closing 1 place t)
-closing-set place t c = let f = closing-fine 1 place t c in record { size = f .size; frontends = f .frontends; clock = f .clock }
+closing-set place t c = let f = closing-fine 1 place t c in record { settings = f .settings; clock = f .clock }
 
 answered-set : (s : List ℕ) (address draw : ℕ) (t : SatBox) → Whole t → Sets t (answered s address draw t .did)
 answered-set s address draw t w =
@@ -79,4 +82,23 @@ requested-set s clock address draw t w =
     let u = sweeping clock t .satbox in
     let a = sweeping-set clock t w in
     let b = answered-set s address draw u (sweeping-whole clock t w) in
-    record { size = b .size ∙ a .size; frontends = b .frontends ∙ a .frontends; clock = b .clock ∙ a .clock }
+    record { settings = b .settings ∙ a .settings; clock = b .clock ∙ a .clock }
+
+-- EVERY CALL, on any well-formed table
+module _ (x : Life) (w : Whole (x .satbox)) where
+  abbrev t : SatBox
+  t = x .satbox
+
+  abbrev own : Lent → List ℕ
+  own l = lent l (x .journal)
+
+  if-done : (o : Outcome) (u : SatBox) → u .settings ≡ t .settings → ifDone o u t .settings ≡ t .settings
+  if-done Done u e = e
+  if-done (Refused r) u e = refl
+
+  pub settings-stay : (c : Call) → live c x .satbox .settings ≡ t .settings
+  unfolding live replied ticked collected emptied
+  settings-stay (request s clock address draw b l) = if-done (requestOutcome t (own l) b) (requested s clock address draw t .did .satbox) (requested-set s clock address draw t w .settings)
+  settings-stay (tick clock l) = if-done (tickOutcome t (own l)) (sweeping clock t .satbox) (sweeping-set clock t w .settings)
+  settings-stay (collect b l) = if-done (collectOutcome t (own l) b) (emptied t) refl
+  settings-stay (order n) = refl

@@ -43,7 +43,7 @@ served-torn t a l client w e y =
 pub answered-torn : (s : List ℕ) (address draw : ℕ) (t : SatBox) → Whole t → methodOf s ≡ Teardown → isPassed (answered s address draw t .case) ≡ true → Torn t (placeNamedBy s t) (answered s address draw t .did)
 unfolding sightOf
 answered-torn s address draw t w e =
-    let a = askedOf (t .frontends) s in
+    let a = askedOf (t .settings .frontends) s in
     answered-by s address draw t (λ (x : Serving). isPassed (x .case) ≡ true → Torn t (sightOf t a .place) (x .did))
     (λ r. served-torn t a (listsOf s) (clientOf address draw a) w e) (λ n p. never p n)
 

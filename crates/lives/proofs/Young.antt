@@ -12,6 +12,7 @@ use Rattle.stream.specs.declared.Stream.{Stream}
 use Rattle.table.specs.Table.{noSession, isOpen, sessionAt}
 use Rattle.finding.specs.Finding.{lowestPlace, lowestId}
 use Rattle.table.specs.declared.Session.{Session}
+use Rattle.table.specs.declared.Settings.{Settings}
 use Rattle.table.specs.declared.SatBox.{SatBox}
 use Rattle.table.specs.declared.Outcome.{Outcome}
 use Rattle.table.specs.declared.Outcome.the-variants.{Done, Refused}
@@ -113,7 +114,7 @@ done-young : (o : Outcome) (t u : SatBox) → Young (t .clock) t → Young (u .c
 done-young Done t u a b = b
 done-young (Refused r) t u a b = a
 
-live-young : {frontends size : ℕ} {x : Life} → Good frontends size x → (c : Call) → Young (x .satbox .clock) (x .satbox) → Young (live c x .satbox .clock) (live c x .satbox)
+live-young : {settings : Settings} {x : Life} → Good settings x → (c : Call) → Young (x .satbox .clock) (x .satbox) → Young (live c x .satbox .clock) (live c x .satbox)
 unfolding live replied ticked collected emptied
 live-young {x = x} g (request s clock address draw b l) y =
     let u = requested s clock address draw (x .satbox) .did .satbox in
@@ -126,10 +127,10 @@ live-young {x = x} g (tick clock l) y =
 live-young {x = x} g (collect b l) y = done-young (collectOutcome (x .satbox) (lent l (x .journal)) b) (x .satbox) (emptied (x .satbox)) y y
 live-young g (order f) y = y
 
-pub run-young : {frontends size : ℕ} (cs : List Call) {x : Life} → all (isCall size) cs ≡ true → Good frontends size x → Young (x .satbox .clock) (x .satbox) → Young (run cs x .satbox .clock) (run cs x .satbox)
+pub run-young : {settings : Settings} (cs : List Call) {x : Life} → all (isCall (settings .size)) cs ≡ true → Good settings x → Young (x .satbox .clock) (x .satbox) → Young (run cs x .satbox .clock) (run cs x .satbox)
 run-young [] e g y = y
-run-young {size = size} (c ∷ cs) e g y = let p = and-both (isCall size c) _ e in run-young cs (p .1) (live-good g c (p .0)) (live-young g c y)
+run-young {settings = settings} (c ∷ cs) e g y = let p = and-both (isCall (settings .size) c) _ e in run-young cs (p .1) (live-good g c (p .0)) (live-young g c y)
 
-pub after-young : {frontends size : ℕ} {j : List ℕ} {cs : List Call} → Lives frontends size j cs → Young (after frontends size j cs .satbox .clock) (after frontends size j cs .satbox)
-after-young {frontends} {size} {j} {cs} h =
-    run-young cs (h .calls) (born-good frontends size j (h .sizes) (h .journal)) (λ k. subst (λ (s : Session). isExpired 0 s ≡ false) (sym (free-place 32 k)) refl)
+pub after-young : {settings : Settings} {j : List ℕ} {cs : List Call} → Lives settings j cs → Young (after settings j cs .satbox .clock) (after settings j cs .satbox)
+after-young {settings} {j} {cs} h =
+    run-young cs (h .calls) (born-good settings j (h .sizes) (h .journal)) (λ k. subst (λ (s : Session). isExpired 0 s ≡ false) (sym (free-place 32 k)) refl)

@@ -8,6 +8,7 @@ use lib.ListN.{length, take}
 use Rattle.scan.specs.Lists.{all}
 use Rattle.journal.specs.declared.Record.{Record}
 use Rattle.table.specs.Made.{numberOf, fresh}
+use Rattle.table.specs.declared.Settings.{Settings}
 use Rattle.table.specs.declared.SatBox.{SatBox}
 use Rattle.table.specs.declared.Outcome.{Outcome}
 use Rattle.table.specs.declared.Outcome.the-variants.{Done, Refused}
@@ -116,11 +117,11 @@ recordsOf [] x = []
 recordsOf (c ∷ cs) x = live c x .records ++ recordsOf cs (live c x)
 
 -- a life of the calls cs: F and C are in range, the first journal has length C, and each call is one that a caller may make
-pub record Lives (frontends size : ℕ) (j : List ℕ) (cs : List Call) : Type 0 where
-  pub sizes : areSizes frontends size ≡ true
-  pub journal : length j ≡ size
-  pub calls : all (isCall size) cs ≡ true
+pub record Lives (settings : Settings) (j : List ℕ) (cs : List Call) : Type 0 where
+  pub sizes : areSizes settings ≡ true
+  pub journal : length j ≡ settings .size
+  pub calls : all (isCall (settings .size)) cs ≡ true
 
 -- where it has come to from a fresh box with F frontends and journal size C; the journal's first bytes are whatever they are
-abbrev pub after : ℕ → ℕ → List ℕ → List Call → Life
-after frontends size j cs = run cs (record { outcome = Done; records = []; satbox = fresh frontends size; journal = j; history = []; since = []; gathered = [] })
+abbrev pub after : Settings → List ℕ → List Call → Life
+after settings j cs = run cs (record { outcome = Done; records = []; satbox = fresh settings; journal = j; history = []; since = []; gathered = [] })

@@ -16,7 +16,7 @@ use Rattle.table.specs.Counts.{any}
 use Rattle.table.specs.Table.{streamOf}
 use Rattle.table.specs.Formed.{wellFormed}
 use Rattle.table.specs.declared.SatBox.{SatBox}
-use Rattle.orders.specs.Orders.{isFed, playsAsOwner, off, orderAt, orderFor, verdictOf, orderOf}
+use Rattle.orders.specs.Orders.{isFed, playsAsOwner, off, orderAt, orderFor, orderOf}
 use Rattle.orders.specs.declared.Ordered.the-variants.{On, Off, Refused}
 use Rattle.table.specs.declared.Refusal.the-variants.{Table, Frontend}
 use Rattle.orders.specs.declared.Order.{Order}
@@ -86,15 +86,15 @@ neither-of true true x y z e f = refl
 neither-of true false x y z e f = absurd (f refl)
 neither-of false b x y z e f = absurd (e refl)
 
-module _ (t : SatBox) (n : ℕ) {v : ℕ} (w : v ≡ verdictOf t n) where
+module _ (t : SatBox) (n : ℕ) {v : ℕ} (w : v ≡ cond (wellFormed t) (cond (isBetween 1 (t .settings .frontends) n) 0 2) 1) where
   pub verdict-table : v ≡ 1 → off (Refused Table) ≡ orderOf t n
-  unfolding verdictOf orderOf
-  verdict-table e = first-of (wellFormed t) (isBetween 1 (t .frontends) n) (orderFor t n) (off (Refused Frontend)) (off (Refused Table)) (sym w ∙ e)
+  unfolding orderOf
+  verdict-table e = first-of (wellFormed t) (isBetween 1 (t .settings .frontends) n) (orderFor t n) (off (Refused Frontend)) (off (Refused Table)) (sym w ∙ e)
 
   pub verdict-frontend : v ≡ 2 → off (Refused Frontend) ≡ orderOf t n
-  unfolding verdictOf orderOf
-  verdict-frontend e = second-of (wellFormed t) (isBetween 1 (t .frontends) n) (orderFor t n) (off (Refused Frontend)) (off (Refused Table)) (sym w ∙ e)
+  unfolding orderOf
+  verdict-frontend e = second-of (wellFormed t) (isBetween 1 (t .settings .frontends) n) (orderFor t n) (off (Refused Frontend)) (off (Refused Table)) (sym w ∙ e)
 
   pub verdict-none : (v ≡ 1 → ⊥) → (v ≡ 2 → ⊥) → orderFor t n ≡ orderOf t n
-  unfolding verdictOf orderOf
-  verdict-none e f = neither-of (wellFormed t) (isBetween 1 (t .frontends) n) (orderFor t n) (off (Refused Frontend)) (off (Refused Table)) (λ z. e (w ∙ z)) (λ z. f (w ∙ z))
+  unfolding orderOf
+  verdict-none e f = neither-of (wellFormed t) (isBetween 1 (t .settings .frontends) n) (orderFor t n) (off (Refused Frontend)) (off (Refused Table)) (λ z. e (w ∙ z)) (λ z. f (w ∙ z))

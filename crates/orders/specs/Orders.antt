@@ -33,22 +33,12 @@ off o = record { stream = noStream; outcome = o }
 -- "the stream's values and PIDs exactly when .. the owner plays and freq, pol, msys, sr and fec are all there; otherwise "off""
 unfoldable pub orderAt : SatBox → ℕ → Order
 orderAt t id =
-    cond (any (playsAsOwner id) (t .sessions) && areComplete (streamOf t id .values))
-    (record { stream = streamOf t id; outcome = On })
-    (off Off)
+    cond (any (playsAsOwner id) (t .sessions) && areComplete (streamOf t id .values)) (record { stream = streamOf t id; outcome = On }) (off Off)
 
 -- "exactly when the frontend is held"; the IDs count from 1
 unfoldable pub orderFor : SatBox → ℕ → Order
-orderFor t n =
-    cond (ltb (first (isFed n) (t .streams)) (length (t .streams))) (orderAt t (suc (first (isFed n) (t .streams)))) (off Off)
-
--- which of them refuses, by its place there
-unfoldable pub verdictOf : SatBox → ℕ → ℕ
-verdictOf t n = cond (wellFormed t) (cond (isBetween 1 (t .frontends) n) 0 2) 1
+orderFor t n = cond (ltb (first (isFed n) (t .streams)) (length (t .streams))) (orderAt t (suc (first (isFed n) (t .streams)))) (off Off)
 
 -- 1: "the table is not well formed"; 5: "frontend number is 0 or above F"
 unfoldable pub orderOf : SatBox → ℕ → Order
-orderOf t n =
-    cond (wellFormed t)
-    (cond (isBetween 1 (t .frontends) n) (orderFor t n) (off (Refused Frontend)))
-    (off (Refused Table))
+orderOf t n = cond (wellFormed t) (cond (isBetween 1 (t .settings .frontends) n) (orderFor t n) (off (Refused Frontend))) (off (Refused Table))

@@ -1,8 +1,11 @@
 // What a frontend is to be set to: off, or the values and PIDs of the stream that holds it.
 ghost use mathlib.Core.Path.{_≡_};
+ghost use mathlib.Core.Bool.{cond};
 ghost use lib.Dec.{eqb};
+ghost use Rattle.scan.specs.Classes.{isBetween};
 ghost use Rattle.scan.specs.Found.{FirstOf};
-ghost use Rattle.orders.specs.Orders.{isFed, playsAsOwner, orderFor, verdictOf, orderOf};
+ghost use Rattle.table.specs.Formed.{wellFormed};
+ghost use Rattle.orders.specs.Orders.{isFed, playsAsOwner, orderFor, orderOf};
 use stream::Stream;
 use table::Refusal;
 use table::SatBox;
@@ -84,12 +87,12 @@ fn order_for(t: SatBox, n: u32) -> Order
 // Which refuses: 1 the table, 2 the frontend, 0 neither. It has the table for itself, so that this copy of it is gone before the order is
 // looked for.
 fn judged(t: SatBox, n: u32) -> u32
-    ensures { λ r. ⌜ r ≡ verdictOf t n ⌝ }
+    ensures { λ r. ⌜ r ≡ cond (wellFormed t) (cond (isBetween 1 (t .settings .frontends) n) 0 2) 1 ⌝ }
 {
     if !formed::is_well_formed(t) {
         return 1;
     }
-    if (n == 0) | ((t.frontends as u32) < n) {
+    if (n == 0) | ((t.settings.frontends as u32) < n) {
         return 2;
     }
     0

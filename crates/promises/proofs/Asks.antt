@@ -2,7 +2,7 @@
 use Prim.Native.Nat.{ℕ}
 use mathlib.Core.List.{List, [], _∷_}
 use Rattle.scan.specs.Text.{text, _&_}
-use Rattle.table.specs.Made.{fresh}
+use Rattle.table.specs.Made.{settingsOf, fresh}
 use Rattle.table.specs.declared.SatBox.{SatBox}
 use Rattle.steps.specs.Cases.{stepOf, statusOf}
 use Rattle.steps.specs.declared.cases.Case.{Case}
@@ -51,7 +51,7 @@ teardown = text "TEARDOWN rtsp://10.0.0.5/stream=1 RTSP/1.0\r\nCSeq: 4\r\nSessio
 
 -- THE BOX with F = 2 and C = 1,024, and the client's address, 192.168.178.39
 abbrev pub box : SatBox
-box = fresh 2 1024
+box = fresh (settingsOf 2 1024)
 
 abbrev pub home : ℕ
 home = 0xC0A8B227

@@ -118,13 +118,13 @@ pub record ReadsAs (s : List ℕ) (a : Asked) (l : Lists) : Type 0 where
 module _ (clock address draw : ℕ) (t : SatBox) {s : List ℕ} where
   pub refused-alike : {r : Refusal} → RefusedAs s r → requested s clock address draw t .case ≡ Reading r
   unfolding requested answered
-  refused-alike d = rw (refusal-alike (sweeping clock t .satbox .frontends) s (d .no-fe), d .refusal, d .refuses)
+  refused-alike d = rw (refusal-alike (sweeping clock t .satbox .settings .frontends) s (d .no-fe), d .refusal, d .refuses)
 
   module _ {a : Asked} {l : Lists} {c : Case} (d : ReadsAs s a l) (k : (u : SatBox) (client : Client) → served u a l client .case ≡ c) where
     pub served-alike : requested s clock address draw t .case ≡ c
     unfolding requested answered
     served-alike =
         let u = sweeping clock t .satbox in
-        let asks : askedOf (u .frontends) s ≡ a = asked-alike (u .frontends) s (d .no-fe) ∙ d .asked in
-        rw (refusal-alike (u .frontends) s (d .no-fe), d .passed)
+        let asks : askedOf (u .settings .frontends) s ≡ a = asked-alike (u .settings .frontends) s (d .no-fe) ∙ d .asked in
+        rw (refusal-alike (u .settings .frontends) s (d .no-fe), d .passed)
         (ap₂ (λ (b : Asked) (m : Lists). served u b m (clientOf address draw b) .case) asks (d .lists) ∙ k u (clientOf address draw a))

@@ -34,6 +34,7 @@ use Rattle.table.specs.Counts.{any}
 use Rattle.table.specs.Table.{noSession, has, isOpen, opens}
 use Rattle.table.specs.Formed.{isSeated, isEmpty, wellFormed}
 use Rattle.finding.specs.Finding.{drawnFrom, lowestFrontend, drawn}
+use Rattle.table.specs.Made.{settingsOf}
 use Rattle.table.specs.declared.Session.{Session}
 use Rattle.table.specs.declared.SatBox.{SatBox}
 use Rattle.table.specs.declared.Outcome.the-variants.{Done}
@@ -170,11 +171,11 @@ playing =
     record {
       sessions = player ∷ replicate 31 noSession;
       streams = picture ∷ replicate 7 noStream;
-      size = 1024;
+      settings = settingsOf 2 1024;
       held = 16;
       clock = 0;
       sequence = 1;
-      frontends = 2;
+      spare = 0;
     }
 
 pub record P5 : Type 0 where

@@ -41,10 +41,9 @@ use Rattle.serving.proofs.Branching.{merging-new, merging-live, merging-feed}
 use Rattle.promises.proofs.Passing.{Changing, served-by, tears-closable, feed, can-join, can-open}
 use Rattle.promises.proofs.Requests.{answered-by}
 
--- WHAT IS SAID. C, F and the clock are as they were
+-- WHAT IS SAID. What is fixed when a box is made, F and C, and the clock are as they were
 pub record Settled (t u : SatBox) : Type 0 where
-  pub size : u .size ≡ t .size
-  pub frontends : u .frontends ≡ t .frontends
+  pub settings : u .settings ≡ t .settings
   pub clock : u .clock ≡ t .clock
 
 -- in u the session s stands at a place, and m is the stream of an ID; every other place and every other stream is as it was in t. (Where m is the
@@ -137,20 +136,20 @@ module _ {t u : SatBox} {place : ℕ} {s : Session} (w : Whole t) (below : place
   changes-both : (id : ℕ) (m : Stream) → u .streams ≡ withStream id m (t .streams) → streamIn (withStream id m (t .streams)) id ≡ m → Changes t u place s id m
   changes-both id m e here = changes-by id m (rw e here) (λ k h. rw e (stream-other id k m (t .streams) h))
 
-settled-same : {t u : SatBox} → u .size ≡ t .size → u .frontends ≡ t .frontends → u .clock ≡ t .clock → Settled t u
-settled-same a b c = record { size = a; frontends = b; clock = c }
+settled-same : {t u : SatBox} → u .settings ≡ t .settings → u .clock ≡ t .clock → Settled t u
+settled-same a b = record { settings = a; clock = b }
 
 -- A SESSION CHANGED IN ITS PLACE, with its stream or without
 module _ (t : SatBox) (w : Whole t) {place : ℕ} (h : place < 32) (s : Session) (id : ℕ) where
   replaced-quietly : Quietly t (replaced place s t) place s id (streamOf t id)
   unfolding replaced
-  replaced-quietly = record { changes = changes-one w h refl (settled-same refl refl refl) refl id; held = refl; sequence = refl }
+  replaced-quietly = record { changes = changes-one w h refl (settled-same refl refl) refl id; held = refl; sequence = refl }
 
   retuned-quietly : (streamOf t id .frontend ≡ 0 → ⊥) → (m : Stream) (b : Bool) → Quietly t (replaced place s (cond (not b) (restreamed id m t) t)) place s id (cond b (streamOf t id) m)
   unfolding replaced restreamed
   retuned-quietly live m true = replaced-quietly
   retuned-quietly live m false =
-      record { changes = changes-both w h refl (settled-same refl refl refl) id m refl (stream-same id m (t .streams) live); held = refl; sequence = refl }
+      record { changes = changes-both w h refl (settled-same refl refl) id m refl (stream-same id m (t .streams) live); held = refl; sequence = refl }
 
 -- A SETUP OR A PLAY OF AN OPEN SESSION, which steps 11 to 15 let through
 looked : (n : Method) → takesQuery n ≡ true → looksUp n ≡ true
@@ -209,7 +208,7 @@ module _ (t : SatBox) (a : Asked) (l : Lists) (client : Client) (w : Whole t) (t
 module _ (s : List ℕ) (address draw : ℕ) (t : SatBox) where
   -- what is asked; the place of the open session that is named, past all places where none is, and that session; and the table after
   abbrev a : Asked
-  a = askedOf (t .frontends) s
+  a = askedOf (t .settings .frontends) s
 
   abbrev l : Lists
   l = listsOf s
@@ -279,7 +278,7 @@ module _ (s : List ℕ) (address draw : ℕ) (t : SatBox) where
       unfolding joining seating noting reseated
       setup-joins some =
           let y = can-join t a l changing setup unnamed some in
-          rw (does setup, unnamed, ne-eqb (a .stream) 0 some, y) (changes-one w (placed _ y) refl (settled-same refl refl refl) refl (a .stream))
+          rw (does setup, unnamed, ne-eqb (a .stream) 0 some, y) (changes-one w (placed _ y) refl (settled-same refl refl) refl (a .stream))
 
       -- or it owns a new one, with the lowest free ID
       pub setup-opens : a .stream ≡ 0
@@ -294,7 +293,7 @@ module _ (s : List ℕ) (address draw : ℕ) (t : SatBox) where
           subst (λ x. Changes t u (lowestPlace (t .sessions)) (newcomer address draw (portOf (a .transport)) id 1 t) id x)
           (ap (λ (c : Change). c .stream) (merging-new t a l client (sightOf t a) refl none))
           (rw (does setup, unnamed, eq-eqb (a .stream) 0 none, open-there)
-          (changes-both w (placed _ y) refl (settled-same refl refl refl) id m refl
+          (changes-both w (placed _ y) refl (settled-same refl refl) id m refl
           (getD-set-same (t .streams) (first isDead (t .streams)) m pastStream (row (feed t a) t y w))))
 
     -- TEARDOWN closes
@@ -304,7 +303,7 @@ module _ (s : List ℕ) (address draw : ℕ) (t : SatBox) where
       unfolding closing closeOne noting reseated sightOf
       teardown-leaves none =
           rw (does teardown, eq-eqb (old .owner) 0 none)
-          (changes-one w (tears-closable t a w untested teardown .below) refl (settled-same refl refl refl) refl (old .stream))
+          (changes-one w (tears-closable t a w untested teardown .below) refl (settled-same refl refl) refl (old .stream))
 
       -- and with an owner each that is on its stream
       pub teardown-empties : (old .owner ≡ 0 → ⊥) → Empties t u (old .stream)
@@ -321,5 +320,5 @@ module _ (s : List ℕ) (address draw : ℕ) (t : SatBox) where
             others = λ i off. rw (ss, getD-clear id (t .sessions) i, off);
             stream = rw ms (stream-same id noStream (t .streams) (seated-live (t .sessions) (pastStream ∷ t .streams) (w .formed .seats) place (c .some)));
             streams = λ k h. rw ms (stream-other id k noStream (t .streams) h);
-            settled = settled-same (f .size) (f .frontends) (f .clock);
+            settled = settled-same (f .settings) (f .clock);
           })

@@ -140,7 +140,7 @@ module _ (t : SatBox) (a : Asked) (l : Lists) (client : Client) where
 -- THE SAME OF ITS BYTES s, on a table that was swept
 module _ (s : List ℕ) (address draw : ℕ) (t : SatBox) where
   abbrev pub asks : Asked
-  asks = askedOf (t .frontends) s
+  asks = askedOf (t .settings .frontends) s
 
   abbrev pub serves : Serving
   serves = served t asks (listsOf s) (clientOf address draw asks)

@@ -23,11 +23,11 @@ use Rattle.promises.proofs.Serving.{Fit, served-whole, denied-still}
 
 -- what holds where steps 1 to 10 let a request through, and where one of them refuses it, holds of every request
 pub answered-by : (s : List ℕ) (address draw : ℕ) (t : SatBox) (P : Serving → Type 0)
-    → (requestRefusal (t .frontends) s ≡ refusal.Passed → P (served t (askedOf (t .frontends) s) (listsOf s) (clientOf address draw (askedOf (t .frontends) s))))
-    → (reading.isPassed (requestRefusal (t .frontends) s) ≡ false → P (denied t (Reading (requestRefusal (t .frontends) s)))) → P (answered s address draw t)
+    → (requestRefusal (t .settings .frontends) s ≡ refusal.Passed → P (served t (askedOf (t .settings .frontends) s) (listsOf s) (clientOf address draw (askedOf (t .settings .frontends) s))))
+    → (reading.isPassed (requestRefusal (t .settings .frontends) s) ≡ false → P (denied t (Reading (requestRefusal (t .settings .frontends) s)))) → P (answered s address draw t)
 unfolding answered
 answered-by s address draw t P f g =
-    cond-keeps P (reading.isPassed (requestRefusal (t .frontends) s)) _ _ (λ e. f (passed-is (requestRefusal (t .frontends) s) e)) g
+    cond-keeps P (reading.isPassed (requestRefusal (t .settings .frontends) s)) _ _ (λ e. f (passed-is (requestRefusal (t .settings .frontends) s) e)) g
 
 -- what steps 1 to 10 let through has values and a port as a table may hold them; proved in `Reading`
 abbrev pub Reads : Type 0
@@ -38,9 +38,9 @@ module _ (reads : Reads) (s : List ℕ) (address draw : ℕ) (short : draw < 429
   -- steps 1 to 18, on a table that was swept
   pub answered-whole : (t : SatBox) → Whole t → Whole (answered s address draw t .did .satbox)
   answered-whole t w =
-      let a = askedOf (t .frontends) s in
+      let a = askedOf (t .settings .frontends) s in
       answered-by s address draw t (λ (x : Serving). Whole (x .did .satbox))
-      (λ e. served-whole t a (listsOf s) (clientOf address draw a) w (reads (t .frontends) s e) refl short) (λ e. w)
+      (λ e. served-whole t a (listsOf s) (clientOf address draw a) w (reads (t .settings .frontends) s e) refl short) (λ e. w)
 
   -- the sweep at any clock, and then those
   pub requested-whole : (clock : ℕ) (t : SatBox) → Whole t → Whole (requested s clock address draw t .did .satbox)
@@ -56,7 +56,7 @@ module _ (reads : Reads) (s : List ℕ) (address draw : ℕ) (short : draw < 429
 -- "A STATUS OTHER THAN 200 CHANGES NOTHING BEYOND THE SWEEP": steps 1 to 18 leave the table and write no record
 pub answered-still : (s : List ℕ) (address draw : ℕ) (t : SatBox) → isPassed (answered s address draw t .case) ≡ false → answered s address draw t .did ≡ nothing t
 answered-still s address draw t =
-    let a = askedOf (t .frontends) s in
+    let a = askedOf (t .settings .frontends) s in
     answered-by s address draw t (λ (x : Serving). isPassed (x .case) ≡ false → x .did ≡ nothing t)
     (λ e. denied-still t a (listsOf s) (clientOf address draw a)) (λ e n. refl)
 

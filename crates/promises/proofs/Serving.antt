@@ -178,13 +178,13 @@ module _ (t : SatBox) (a : Asked) (l : Lists) (client : Client) (w : Whole t) (f
       unfolding sightOf
       proper-client = record { port = rw port (set-port (rw setup)); draw = draw }
 
-      pub new-sound : a .stream ≡ 0 → isSound (t .frontends) (merging t a l .stream) ≡ true
+      pub new-sound : a .stream ≡ 0 → isSound (t .settings .frontends) (merging t a l .stream) ≡ true
       unfolding sightOf
       new-sound none =
           let f = feed-range (feed t a) t (can-open t a l q setup stranger none) in
           let e = merging-new t a l client (sightOf t a) refl none in
           rw e
-          (merge-sound (blank (feed t a)) (a .codes) (l .pids) (l .delpids) (l .addpids) (t .frontends) (blank-sound (t .frontends) (feed t a) (f .0) (f .1))
+          (merge-sound (blank (feed t a)) (a .codes) (l .pids) (l .delpids) (l .addpids) (t .settings .frontends) (blank-sound (t .settings .frontends) (feed t a) (f .0) (f .1))
           (λ z. omega (arith, f .0)) (fit .codes) (ap (λ (c : Change). c .outcome) (sym e) ∙ new-merged t a l q setup stranger none))
 
       seating-whole : Whole (seating t a l client .did .satbox)

@@ -100,7 +100,7 @@ module _ (t : SatBox) (a : Asked) (l : Lists) (client : Client) (w : Whole t) wh
 module _ (s : List ℕ) (address draw : ℕ) where
   pub answered-counted : (t : SatBox) → Whole t → Counted t (answered s address draw t .did)
   answered-counted t w =
-      let a = askedOf (t .frontends) s in
+      let a = askedOf (t .settings .frontends) s in
       answered-by s address draw t (λ (x : Serving). Counted t (x .did)) (λ e. served-counted t a (listsOf s) (clientOf address draw a) w)
       (λ e. quiet-counted t t refl refl)
 
@@ -144,9 +144,9 @@ module _ (t : SatBox) (a : Asked) (l : Lists) (w : Whole t) (fit : Fit a) (clien
 module _ (reads : Reads) (s : List ℕ) (address draw : ℕ) (short : draw < 4294967296) where
   pub answered-recorded : (t : SatBox) → Whole t → Recorded t (answered s address draw t .did)
   answered-recorded t w =
-      let a = askedOf (t .frontends) s in
+      let a = askedOf (t .settings .frontends) s in
       answered-by s address draw t (λ (x : Serving). Recorded t (x .did))
-      (λ e. served-recorded t a (listsOf s) w (reads (t .frontends) s e) (clientOf address draw a) refl short) (λ e. refl)
+      (λ e. served-recorded t a (listsOf s) w (reads (t .settings .frontends) s e) (clientOf address draw a) refl short) (λ e. refl)
 
   pub requested-recorded : (clock : ℕ) (t : SatBox) → Whole t → Recorded t (requested s clock address draw t .did)
   unfolding requested

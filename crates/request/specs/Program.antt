@@ -2,9 +2,9 @@
 -- standard input and writes the answer." Assumes nothing.
 use Prim.Native.Nat.{ℕ}
 use mathlib.Core.List.{List}
-use Rattle.table.specs.Made.{fresh}
+use Rattle.table.specs.Made.{settingsOf, fresh}
 use Rattle.satbox.specs.Requests.{answerOf}
 
 -- the answer to a request's bytes
 abbrev pub answered : List ℕ → List ℕ
-answered s = answerOf s 0 0xC0A8B227 1 (fresh 2 1024)
+answered s = answerOf s 0 0xC0A8B227 1 (fresh (settingsOf 2 1024))

@@ -8,6 +8,13 @@ ghost use lib.ListN.{length, drop};
 ghost use Rattle.io.specs.Counts.{Counts};
 ghost use Rattle.request.specs.Program.{answered};
 use table::SatBox;
+use table::Settings;
+
+const SETTINGS: Settings = Settings {
+    size: 1024,
+    frontends: 2,
+    spare: 0,
+};
 
 // 192.168.178.39
 const ADDRESS: u32 = 0xC0A8B227;
@@ -20,7 +27,7 @@ fn answer(request: &[u8], buffer: &mut [u8]) -> usize
     ensures { λ n. ⌜ Counts n (now (buffer .exit)) ⌝ }
 {
     let mut journal = [0u8; 1024];
-    let satbox = SatBox::fresh(2, 1024).satbox;
+    let satbox = SatBox::fresh(SETTINGS).satbox;
     let replied = satbox::request(satbox, request, 0, ADDRESS, 1, buffer, &mut journal);
     replied.count as usize
 }

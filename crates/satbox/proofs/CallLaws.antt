@@ -34,7 +34,7 @@ use Rattle.closings.proofs.Keeping.{Whole, clock-whole}
 
 -- the table at the clock used, and swept there
 pub clock-set : (t : SatBox) (clock n : ℕ) → n ≡ max (t .clock) clock
-    → record { sessions = t .sessions; streams = t .streams; size = t .size; held = t .held; clock = n; sequence = t .sequence; frontends = t .frontends } ≡ atClock clock t
+    → record { sessions = t .sessions; streams = t .streams; settings = t .settings; held = t .held; clock = n; sequence = t .sequence; spare = t .spare } ≡ atClock clock t
 unfolding atClock
 clock-set t clock n e = rw e
 
@@ -46,7 +46,7 @@ aged-swept {t} {u} {r} {j} {k} clock w e f p =
 pub idle-swept : {u : SatBox} {j : List ℕ} {b : Bool} (t : SatBox) (clock : ℕ) → u ≡ atClock clock t → b ≡ any (isExpired (u .clock)) (u .sessions) → b ≡ false → Does (atClock clock t) j (sweeping clock t) u j
 idle-swept {u} {j} t clock e f n = subst (λ x. Does x j (swept x) u j) e (does-idle (sym f ∙ n))
 
-pub formed-held : (t : SatBox) → wellFormed t ≡ true → t .held ≤ t .size
+pub formed-held : (t : SatBox) → wellFormed t ≡ true → t .held ≤ t .settings .size
 formed-held t e = omega (arith, formed t e .fits .bound)
 
 -- THE TESTS of a call in their order: it is done where each holds
@@ -71,12 +71,12 @@ module _ (clock : ℕ) (t : SatBox) (j : List ℕ) where
   tick-ends {o} e p q = let z = tick-by o p q in (z .0 ∙ rw e, z .1 ∙ rw e)
 
   pub tick-found : {o : Outcome} → o ≡ tickOutcome t j → ifDone o true false ≡ true → wellFormed t ≡ true
-  tick-found e h = done-first (wellFormed t) Table (eqb (length j) (t .size) else Journal andThen Done) (sym (ap (λ x. ifDone x true false) e) ∙ h) .0
+  tick-found e h = done-first (wellFormed t) Table (eqb (length j) (t .settings .size) else Journal andThen Done) (sym (ap (λ x. ifDone x true false) e) ∙ h) .0
 
 -- COLLECT
 module _ (t : SatBox) (j b : List ℕ) where
   abbrev left : ℕ → SatBox
-  left n = record { sessions = t .sessions; streams = t .streams; size = t .size; held = n; clock = t .clock; sequence = t .sequence; frontends = t .frontends }
+  left n = record { sessions = t .sessions; streams = t .streams; settings = t .settings; held = n; clock = t .clock; sequence = t .sequence; spare = t .spare }
 
   abbrev collectedAs : Outcome → SatBox → ℕ → Collected
   collectedAs o r n = record { satbox = r; outcome = o; count = n }
@@ -105,11 +105,11 @@ module _ (t : SatBox) (j b : List ℕ) where
   pub collect-found : {o : Outcome} → o ≡ collectOutcome t j b → ifDone o true false ≡ true → (t .held ≤ length b) × (t .held ≤ length j)
   collect-found {o} e h =
       let c0 = not (ltb (length b) (t .held)) else Buffer andThen Done in
-      let b0 = eqb (length j) (t .size) else Journal andThen c0 in
+      let b0 = eqb (length j) (t .settings .size) else Journal andThen c0 in
       let a = done-first (wellFormed t) Table b0 (sym (ap (λ x. ifDone x true false) e) ∙ h) in
-      let c = done-first (eqb (length j) (t .size)) Journal c0 (a .1) in
+      let c = done-first (eqb (length j) (t .settings .size)) Journal c0 (a .1) in
       let d = done-first (not (ltb (length b) (t .held))) Buffer Done (c .1) in
-      (omega (arith, ltb-false (length b) (t .held) (not-true (ltb (length b) (t .held)) (d .0))), omega (arith, formed-held t (a .0), eqb-true (length j) (t .size) (c .0)))
+      (omega (arith, ltb-false (length b) (t .held) (not-true (ltb (length b) (t .held)) (d .0))), omega (arith, formed-held t (a .0), eqb-true (length j) (t .settings .size) (c .0)))
 
   -- no more is copied than there is
   most-by : (o : Outcome) → (ifDone o true false ≡ true → (t .held ≤ length b) × (t .held ≤ length j)) → ifDone o (t .held) 0 ≤ length j

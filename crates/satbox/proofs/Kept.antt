@@ -14,6 +14,7 @@ use Rattle.stream.proofs.Keeping.{merge-sound, merge-frontend}
 use Rattle.table.specs.Table.{streamOf}
 use Rattle.table.specs.Formed.{areSizes}
 use Rattle.table.specs.Made.{fresh}
+use Rattle.table.specs.declared.Settings.{Settings}
 use Rattle.table.specs.declared.SatBox.{SatBox}
 use Rattle.table.specs.declared.Outcome.{Outcome}
 use Rattle.table.specs.declared.Outcome.the-variants.{Done, Refused}
@@ -27,8 +28,8 @@ use Rattle.closings.proofs.Closings.{with-length}
 use Rattle.closings.proofs.Keeping.{Whole, swept-whole, clock-whole}
 
 -- A FRESH BOX
-pub fresh-whole : (frontends size : ℕ) → areSizes frontends size ≡ true → Whole (fresh frontends size)
-fresh-whole frontends size e = record { formed = formed (fresh frontends size) (fresh-formed frontends size e); places = refl; rows = refl }
+pub fresh-whole : (s : Settings) → areSizes s ≡ true → Whole (fresh s)
+fresh-whole s e = record { formed = formed (fresh s) (fresh-formed s e); places = refl; rows = refl }
 
 -- a call that was refused leaves its table alone
 pub done-keeps : (o : Outcome) (t u : SatBox) → Whole t → Whole u → Whole (ifDone o u t)
@@ -65,7 +66,7 @@ unfolding collected
 collect-whole t j b w = done-keeps (collectOutcome t j b) t (emptied t) w (emptied-whole t w)
 
 -- A QUERY MERGED into a live stream, which keeps its frontend
-pub restreamed-whole : (id : ℕ) (m : Stream) (t : SatBox) → Whole t → (id ≡ 0 → ⊥) → isSound (t .frontends) m ≡ true → m .frontend ≡ streamOf t id .frontend → Whole (restreamed id m t)
+pub restreamed-whole : (id : ℕ) (m : Stream) (t : SatBox) → Whole t → (id ≡ 0 → ⊥) → isSound (t .settings .frontends) m ≡ true → m .frontend ≡ streamOf t id .frontend → Whole (restreamed id m t)
 unfolding restreamed
 restreamed-whole id m t w h good e =
     record {
@@ -73,7 +74,7 @@ restreamed-whole id m t w h good e =
           record {
             sizes = w .formed .sizes;
             seats = rw (by-id (t .streams) id m h) (seats-fed (t .sessions) (pastStream ∷ t .streams) (w .formed .seats) id m e);
-            rows = rows-fed (t .frontends) (t .streams) (w .formed .rows) id m good e;
+            rows = rows-fed (t .settings .frontends) (t .streams) (w .formed .rows) id m good e;
             proper = w .formed .proper;
             fits = w .formed .fits;
           };
@@ -85,5 +86,5 @@ pub merged-whole : (id : ℕ) (codes pids delpids addpids : List ℕ) (t : SatBo
     → Whole (restreamed id (mergeOf (streamOf t id) codes pids delpids addpids .stream) t)
 merged-whole id codes pids delpids addpids t w live fit e =
     restreamed-whole id (mergeOf (streamOf t id) codes pids delpids addpids .stream) t w (λ q. live (ap (λ k. streamOf t k .frontend) q))
-    (merge-sound (streamOf t id) codes pids delpids addpids (t .frontends) (sound-at (t .frontends) (t .streams) (w .formed .rows) id) live fit e)
+    (merge-sound (streamOf t id) codes pids delpids addpids (t .settings .frontends) (sound-at (t .settings .frontends) (t .streams) (w .formed .rows) id) live fit e)
     (merge-frontend (streamOf t id) codes pids delpids addpids)

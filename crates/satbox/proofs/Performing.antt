@@ -30,7 +30,7 @@ use Rattle.serving.proofs.ServingLaws.{turn-denied}
 
 -- the stream of an ID is set, and none at 0
 pub row-set : (t : SatBox) {u : SatBox} (id : ℕ) (m : Stream) → (id ≡ 0 → ⊥)
-    → u ≡ record { sessions = t .sessions; streams = set (t .streams) (id - 1) m; size = t .size; held = t .held; clock = t .clock; sequence = t .sequence; frontends = t .frontends }
+    → u ≡ record { sessions = t .sessions; streams = set (t .streams) (id - 1) m; settings = t .settings; held = t .held; clock = t .clock; sequence = t .sequence; spare = t .spare }
     → u ≡ restreamed id m t
 unfolding restreamed
 row-set t id m h e = e ∙ rw (with-at (t .streams) id m h)
@@ -41,7 +41,7 @@ row-kept t id m h e = e ∙ rw (← with-none (t .streams) id m h)
 
 -- the session of a place is set, and none past the last
 pub seat-set : (t : SatBox) {u : SatBox} (place : ℕ) (s : Session)
-    → u ≡ record { sessions = set (t .sessions) place s; streams = t .streams; size = t .size; held = t .held; clock = t .clock; sequence = t .sequence; frontends = t .frontends }
+    → u ≡ record { sessions = set (t .sessions) place s; streams = t .streams; settings = t .settings; held = t .held; clock = t .clock; sequence = t .sequence; spare = t .spare }
     → u ≡ replaced place s t
 unfolding replaced
 seat-set t place s e = e
@@ -89,7 +89,7 @@ module _ (x : Turn) (t : SatBox) {u : SatBox} {j : List ℕ} (n : x .kind ≡ 3 
   -- AN OPENING
   pub settled-seats : {k : List ℕ} {feed number : ℕ} → (x .kind ≡ 0 → ⊥) → feed ≡ streamOf u (x .seat .stream) .frontend → number ≡ nextSequence (u .sequence)
       → k ≡ written j (u .held) (encoded (record { kind = x .kind; cause = 0; clock = u .clock; session = x .seat .number; stream = x .seat .stream; frontend = feed; sequence = u .sequence }))
-      → Does t j (settled x t) (record { sessions = u .sessions; streams = u .streams; size = u .size; held = u .held + 16; clock = u .clock; sequence = number; frontends = u .frontends }) k
+      → Does t j (settled x t) (record { sessions = u .sessions; streams = u .streams; settings = u .settings; held = u .held + 16; clock = u .clock; sequence = number; spare = u .spare }) k
   unfolding settled restreamed replaced noting reseated
   settled-seats z f s w =
       rw (ne-eqb (x .kind) 3 n, ne-eqb (x .kind) 0 z)

@@ -91,14 +91,14 @@ numbers n a p m = record { number = n; stream = omega arith; address = a; port =
 abbrev answerTo : List ℕ → ℕ → ℕ → SatBox → List ℕ
 answerTo s address draw t = replyText (answered s address draw t .case) s (answered s address draw t .session)
 
-module _ (s : List ℕ) (address draw : ℕ) (t : SatBox) (r : Request) (i : RequestIs (t .frontends) s r) where
+module _ (s : List ℕ) (address draw : ℕ) (t : SatBox) (r : Request) (i : RequestIs (t .settings .frontends) s r) where
   pub answered-follows : Follows r (answered s address draw t .case)
   unfolding answered
   answered-follows =
-      let a = askedOf (t .frontends) s in
+      let a = askedOf (t .settings .frontends) s in
       let client = clientOf address draw a in
-      cond-keeps (λ x. Follows r (x .case)) (reading.isPassed (requestRefusal (t .frontends) s))
-      (served t a (listsOf s) client) (denied t (Reading (requestRefusal (t .frontends) s)))
+      cond-keeps (λ x. Follows r (x .case)) (reading.isPassed (requestRefusal (t .settings .frontends) s))
+      (served t a (listsOf s) client) (denied t (Reading (requestRefusal (t .settings .frontends) s)))
       (λ e. follows-passed (i .refusal ∙ passed-is _ e) (served-unread t a (listsOf s) client))
       (λ n. follows-refused (ap Reading (sym (i .refusal))) (ap reading.isPassed (i .refusal) ∙ n))
 
@@ -108,12 +108,12 @@ module _ (s : List ℕ) (address draw : ℕ) (t : SatBox) (r : Request) (i : Req
     answer-told : answerText s a ≡ answerTo s address draw t
     answer-told =
         let x = answered s address draw t in
-        rw (e, p .case, p .session) (reply-told (t .frontends) s r i (x .case) (x .session) answered-follows)
+        rw (e, p .case, p .session) (reply-told (t .settings .frontends) s r i (x .case) (x .session) answered-follows)
 
     answer-short : length (answerTo s address draw t) ≤ 4096
     answer-short =
         let x = answered s address draw t in
-        reply-fits (t .frontends) s r i (x .case) (x .session) answered-follows (subst Numbers (p .session) m)
+        reply-fits (t .settings .frontends) s r i (x .case) (x .session) answered-follows (subst Numbers (p .session) m)
 
     answer-front : (d ≡ answerTo s address draw t ++ drop (length (answerTo s address draw t)) b) × (n ≡ length (answerTo s address draw t))
     answer-front = wrote-front (wrote-as answer-told w) (omega (arith, answer-short))
@@ -179,8 +179,8 @@ module _ (s : List ℕ) (clock address draw : ℕ) (t : SatBox) (b j : List ℕ)
   pub request-found : {o : Outcome} → o ≡ requestOutcome t j b → ifDone o true false ≡ true → (wellFormed t ≡ true) × (4096 ≤ length b)
   request-found {o} e h =
       let c0 = not (ltb (length b) 4096) else refusal.Answer andThen Done in
-      let b0 = eqb (length j) (t .size) else refusal.Journal andThen c0 in
+      let b0 = eqb (length j) (t .settings .size) else refusal.Journal andThen c0 in
       let a = done-first (wellFormed t) refusal.Table b0 (sym (ap (λ x. ifDone x true false) e) ∙ h) in
-      let c = done-first (eqb (length j) (t .size)) refusal.Journal c0 (a .1) in
+      let c = done-first (eqb (length j) (t .settings .size)) refusal.Journal c0 (a .1) in
       let d = done-first (not (ltb (length b) 4096)) refusal.Answer Done (c .1) in
       (a .0, omega (arith, ltb-false (length b) 4096 (not-true (ltb (length b) 4096) (d .0))))

@@ -4,6 +4,7 @@ use mathlib.Core.Bool.{Bool, not, _&&_}
 use lib.Dec.{leb, ltb}
 use lib.ListN.{length}
 use Rattle.scan.specs.Classes.{isBetween}
+use Rattle.journal.specs.Bytes.{recordSize}
 use Rattle.stream.specs.declared.Stream.{Stream}
 use Rattle.table.specs.Table.{opens, streamOf, isLive}
 use Rattle.finding.specs.Finding.{lowestPlace, lowestId, isHeld, drawn}
@@ -18,25 +19,17 @@ hasPlace t = ltb (lowestPlace (t .sessions)) (length (t .sessions))
 
 -- not "bytes held + 16 × open + 32 > C"
 abbrev pub hasRoom : SatBox → Bool
-hasRoom t = leb (t .held + 16 * opens t + 32) (t .size)
+hasRoom t = leb (t .held + recordSize * opens t + 2 * recordSize) (t .settings .size)
 
 -- not "a new stream whose fe is held, or with no fe and no frontend free": with none free the lowest is past the last
 abbrev pub hasFrontend : ℕ → SatBox → Bool
-hasFrontend f t = isBetween 1 (t .frontends) f && not (isHeld f (t .streams))
+hasFrontend f t = isBetween 1 (t .settings .frontends) f && not (isHeld f (t .streams))
 
 -- "Its session number is the first non-zero number not open, counting up from the draw"; "A session keeps the client's address from its
 -- opening"; an opening sets "the last time to the clock"
 abbrev pub guest : ℕ → ℕ → Client → SatBox → Session
-guest owner id client t =
-    record {
-      number = drawn (t .sessions) (client .draw);
-      address = client .address;
-      last = t .clock;
-      port = client .port;
-      stream = id;
-      owner = owner;
-      playing = 0;
-    }
+guest owner id c t =
+    record { number = drawn (t .sessions) (c .draw); address = c .address; last = t .clock; port = c .port; stream = id; owner = owner; playing = 0 }
 
 -- "An opening takes the lowest free place."
 unfoldable pub seating : ℕ → Session → SatBox → Did
@@ -54,5 +47,4 @@ abbrev pub canOpen : ℕ → SatBox → Bool
 canOpen f t = hasPlace t && (hasFrontend f t && hasRoom t)
 
 unfoldable pub opening : Stream → Client → SatBox → Did
-opening m client t =
-    when (canOpen (m .frontend) t) (seating 1 (guest 1 (lowestId (t .streams)) client t) (restreamed (lowestId (t .streams)) m t)) t
+opening m client t = when (canOpen (m .frontend) t) (seating 1 (guest 1 (lowestId (t .streams)) client t) (restreamed (lowestId (t .streams)) m t)) t

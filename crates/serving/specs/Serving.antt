@@ -1,5 +1,4 @@
--- Document 01, "The answer, first that applies", steps 16 to 18, what a request does where nothing refuses it, and all eighteen in a row.
--- Assumes nothing.
+-- Document 01: steps 16 to 18, what a request does where nothing refuses it, and all eighteen steps in a row. Assumes nothing.
 use Prim.Native.Nat.{ℕ}
 use mathlib.Core.List.{List}
 use mathlib.Core.Bool.{Bool, true, false, not, cond, _&&_, _||_}
@@ -15,7 +14,7 @@ use Rattle.stream.specs.declared.Stream.{Stream}
 use Rattle.stream.specs.declared.Change.{Change}
 use Rattle.stream.specs.declared.Outcome.{Outcome}
 use Rattle.stream.specs.declared.Outcome.the-variants.{Merged, Combination as Clash, TooMany}
-use Rattle.table.specs.Table.{noSession, streamOf, owns}
+use Rattle.table.specs.Table.{noSession, streamOf, owns, boxWith, sessionWith}
 use Rattle.finding.specs.Finding.{lowestFrontend, lowestId}
 use Rattle.table.specs.declared.Session.{Session}
 use Rattle.table.specs.declared.SatBox.{SatBox}
@@ -34,7 +33,7 @@ use Rattle.serving.specs.declared.opening.Client.{Client}
 
 -- a new stream takes fe "and, without fe, the lowest free frontend"
 abbrev pub feedOf : SatBox → ℕ → ℕ
-feedOf t fe = cond (eqb fe 0) (lowestFrontend (t .frontends) (t .streams)) fe
+feedOf t fe = cond (eqb fe 0) (lowestFrontend (t .settings .frontends) (t .streams)) fe
 
 -- what a query is merged into: a new stream, or the one that is named
 abbrev pub unmerged : SatBox → Asked → Stream
@@ -68,7 +67,7 @@ isTooMany TooMany = true
 abbrev pub opens : Sight → Bool
 opens v = isSetup (v .method) && not (isNamed v)
 
--- not "no free session place; a new stream whose fe is held, or with no fe and no frontend free; or bytes held + 16 × open + 32 > C"
+-- what an opening takes is there: on a new stream, or on a live one
 abbrev pub canSeat : SatBox → Sight → Bool
 canSeat t v = cond (eqb (v .stream) 0) (canOpen (feedOf t (v .fe)) t) (canJoin (v .stream) t)
 
@@ -86,55 +85,17 @@ caseOf t a l = orElse (tableCase (sightOf t a)) (changeCase t a l)
 
 -- WHAT IS DONE: to a session, which is changed in its place; nothing is written of it
 unfoldable pub replaced : ℕ → Session → SatBox → SatBox
-replaced place s t =
-    record {
-      sessions = set (t .sessions) place s;
-      streams = t .streams;
-      size = t .size;
-      held = t .held;
-      clock = t .clock;
-      sequence = t .sequence;
-      frontends = t .frontends;
-    }
+replaced place s t = boxWith (set (t .sessions) place s) (t .streams) (t .held) (t .clock) (t .sequence) t
 
--- "an OPTIONS naming an open session set the last time to the clock"
+-- an OPTIONS sets "the last time to the clock"; "SETUP in a session replaces only the port"; PLAY "marks the session playing"
 abbrev pub refreshed : ℕ → Session → Session
-refreshed clock s =
-    record {
-      number = s .number;
-      address = s .address;
-      last = clock;
-      port = s .port;
-      stream = s .stream;
-      owner = s .owner;
-      playing = s .playing;
-    }
+refreshed clock s = sessionWith clock (s .port) (s .playing) s
 
--- "SETUP in a session replaces only the port"
 abbrev pub atPort : ℕ → Session → Session
-atPort port s =
-    record {
-      number = s .number;
-      address = s .address;
-      last = s .last;
-      port = port;
-      stream = s .stream;
-      owner = s .owner;
-      playing = s .playing;
-    }
+atPort port s = sessionWith (s .last) port (s .playing) s
 
--- "marks the session playing"
 abbrev pub playing : Session → Session
-playing s =
-    record {
-      number = s .number;
-      address = s .address;
-      last = s .last;
-      port = s .port;
-      stream = s .stream;
-      owner = s .owner;
-      playing = 1;
-    }
+playing s = sessionWith (s .last) (s .port) 1 s
 
 -- the session after a SETUP or a PLAY that names it
 abbrev pub after : Sight → Session
@@ -151,16 +112,14 @@ granted d s = record { did = d; session = s; case = Passed }
 
 -- a session that is named has its last time set; OPTIONS without one does nothing
 abbrev pub keeping : SatBox → Sight → Serving
-keeping t v =
-    granted (when (isNamed v) (nothing (replaced (v .place) (refreshed (t .clock) (v .session)) t)) t) (v .session)
+keeping t v = granted (when (isNamed v) (nothing (replaced (v .place) (refreshed (t .clock) (v .session)) t)) t) (v .session)
 
 -- "for the owner, merges the query"; "PLAY merges the owner's query and marks the session playing"
 abbrev pub retuned : SatBox → Asked → Lists → SatBox
 retuned t a l = cond (merges (sightOf t a)) (restreamed (a .stream) (merging t a l .stream) t) t
 
 abbrev pub retuning : SatBox → Asked → Lists → Serving
-retuning t a l =
-    granted (nothing (replaced (sightOf t a .place) (after (sightOf t a)) (retuned t a l))) (after (sightOf t a))
+retuning t a l = granted (nothing (replaced (sightOf t a .place) (after (sightOf t a)) (retuned t a l))) (after (sightOf t a))
 
 -- a SETUP without a session: a new stream, or one that is live
 abbrev pub seating : SatBox → Asked → Lists → Client → Serving
@@ -192,6 +151,6 @@ clientOf address draw a = record { address = address; port = portOf (a .transpor
 -- steps 1 to 18, on a table that was swept
 unfoldable pub answered : List ℕ → ℕ → ℕ → SatBox → Serving
 answered s address draw t =
-    cond (reading.isPassed (requestRefusal (t .frontends) s))
-    (served t (askedOf (t .frontends) s) (listsOf s) (clientOf address draw (askedOf (t .frontends) s)))
-    (denied t (Reading (requestRefusal (t .frontends) s)))
+    cond (reading.isPassed (requestRefusal (t .settings .frontends) s))
+    (served t (askedOf (t .settings .frontends) s) (listsOf s) (clientOf address draw (askedOf (t .settings .frontends) s)))
+    (denied t (Reading (requestRefusal (t .settings .frontends) s)))

@@ -12,6 +12,7 @@ use Rattle.aim.specs.declared.Method.the-variants.{Options, Setup, Play, Teardo
 use Rattle.refusals.specs.declared.Refusal.{Refusal}
 use Rattle.reader.specs.Heads.{RequestIs}
 use Rattle.reader.specs.declared.Request.{Request}
+use Rattle.journal.specs.Bytes.{recordSize}
 use Rattle.stream.specs.Streams.{noStream, blank}
 use Rattle.stream.specs.declared.Stream.{Stream}
 use Rattle.stream.specs.declared.Change.{Change}
@@ -142,7 +143,7 @@ performed x t = cond (eqb (x .kind) 3) (closing 1 (x .place) t) (seated x (restr
 -- and that it can be done: what is set is of the table, and there is room for what is written
 pub record Seatable (t : SatBox) (x : Turn) : Type 0 where
   pub below : x .place < 32
-  pub room : t .held + 16 ≤ t .size
+  pub room : t .held + recordSize ≤ t .settings .size
   pub least : 1 ≤ x .seat .stream
   pub most : x .seat .stream ≤ 8
 
@@ -165,7 +166,7 @@ pub record Servable (t : SatBox) (s : List ℕ) (r : Request) : Type 0 where
   pub places : length (t .sessions) ≡ 32
   pub rows : length (t .streams) ≡ 8
   pub told : Told s r
-  pub fe : getD (r .codes) 1 0 ≤ t .frontends
+  pub fe : getD (r .codes) 1 0 ≤ t .settings .frontends
 
 -- steps 11 to 15 let it through
 pub record Through (t : SatBox) (s : List ℕ) (r : Request) (v : Sight) : Type 0 where
@@ -208,7 +209,7 @@ pub record Looks (t : SatBox) (s : List ℕ) (r : Request) (v : Sight) (m : Stre
   pub formed : wellFormed t ≡ true
   pub places : length (t .sessions) ≡ 32
   pub rows : length (t .streams) ≡ 8
-  pub is : RequestIs (t .frontends) s r
+  pub is : RequestIs (t .settings .frontends) s r
   pub sight : v ≡ sightOf t (askedBy r)
   pub first : case ≡ firstCase (r .refusal) v
   pub stream : Found t v m

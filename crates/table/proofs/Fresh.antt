@@ -7,20 +7,21 @@ use borrow.Author.Tests.{le-leb}
 use Rattle.stream.specs.Values.{areNone}
 use Rattle.stream.specs.Streams.{isSound, areZero}
 use Rattle.table.specs.Formed.{areSizes, isEmpty, wellFormed}
-use Rattle.table.specs.Made.{fresh, madeOf}
+use Rattle.table.specs.Made.{settingsOf, fresh, madeOf}
+use Rattle.table.specs.declared.Settings.{Settings}
 use Rattle.table.specs.declared.SatBox.{SatBox}
 use Rattle.table.specs.declared.Refusal.the-variants.{Sizes}
 use Rattle.table.specs.declared.Outcome.the-variants.{Done, Refused}
 
-module _ (frontends size : ℕ) {t : Bool} {b : SatBox} (e : t ≡ areSizes frontends size) where
-  pub made : t ≡ true → b ≡ fresh frontends size → record { satbox = b; outcome = Done } ≡ madeOf frontends size
+module _ (s : Settings) {t : Bool} {b : SatBox} (e : t ≡ areSizes s) where
+  pub made : t ≡ true → b ≡ fresh s → record { satbox = b; outcome = Done } ≡ madeOf s
   unfolding madeOf
   made y q = rw (sym e ∙ y, q)
 
-  pub refused : t ≡ false → b ≡ fresh 0 0 → record { satbox = b; outcome = Refused Sizes } ≡ madeOf frontends size
+  pub refused : t ≡ false → b ≡ fresh (settingsOf 0 0) → record { satbox = b; outcome = Refused Sizes } ≡ madeOf s
   unfolding madeOf
   refused n q = rw (sym e ∙ n, q)
 
-pub fresh-formed : (frontends size : ℕ) → areSizes frontends size ≡ true → wellFormed (fresh frontends size) ≡ true
+pub fresh-formed : (s : Settings) → areSizes s ≡ true → wellFormed (fresh s) ≡ true
 unfolding wellFormed isEmpty isSound areZero areNone
-fresh-formed frontends size e = rw e (le-leb 0 size (omega arith))
+fresh-formed s e = rw e (le-leb 0 (s .size) (omega arith))

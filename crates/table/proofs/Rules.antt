@@ -49,11 +49,11 @@ pub record Fits (held size n : ℕ) : Type 0 where
   pub bound : held + 16 * n ≤ size
 
 pub record WellFormed (t : SatBox) : Type 0 where
-  pub sizes : areSizes (t .frontends) (t .size) ≡ true
+  pub sizes : areSizes (t .settings) ≡ true
   pub seats : Seats (t .sessions) (pastStream ∷ t .streams)
-  pub rows : Rows (t .frontends) (t .streams)
+  pub rows : Rows (t .settings .frontends) (t .streams)
   pub proper : AreProper (t .clock) (t .sessions)
-  pub fits : Fits (t .held) (t .size) (opens t)
+  pub fits : Fits (t .held) (t .settings .size) (opens t)
 
 -- an open session of a live stream is on no dead one, and one that is on no dead stream is housed
 housed-off : (t : SatBox) (k : ℕ) → streamOf t k .frontend ≡ 0 → (s : Session) → isHoused t s ≡ true → Case (isFree s) → Case (eqb (s .stream) k) → isOn k s ≡ false
@@ -96,12 +96,12 @@ module _ (t : SatBox) where
   pub formed : wellFormed t ≡ true → WellFormed t
   unfolding wellFormed
   formed e =
-      let a = and-both (areSizes (t .frontends) (t .size)) _ e in
+      let a = and-both (areSizes (t .settings)) _ e in
       let b = and-both (areDistinct (numbersOf (t .sessions))) _ (a .1) in
       let c = and-both (all (isHoused t) (t .sessions)) _ (b .1) in
       let d = and-both (areOwned (t .sessions) 1 (t .streams)) _ (c .1) in
       let f = and-both (areDistinct (frontendsOf (t .streams))) _ (d .1) in
-      let g = and-both (all (isSound (t .frontends)) (t .streams)) _ (f .1) in
+      let g = and-both (all (isSound (t .settings .frontends)) (t .streams)) _ (f .1) in
       let h = and-both (all (isProper (t .clock)) (t .sessions)) _ (g .1) in
       let i = and-both (eqb (t .held % 16) 0) _ (h .1) in
       record {
@@ -115,7 +115,7 @@ module _ (t : SatBox) where
         rows =
             record {
               feeds = λ n z. rw (sym (count-map (is-number n) (λ m. m .frontend) (t .streams))) (distinct-count (frontendsOf (t .streams)) (f .0) n z);
-              sound = λ k. all-at (isSound (t .frontends)) (t .streams) k pastStream (past-sound (t .frontends)) (g .0);
+              sound = λ k. all-at (isSound (t .settings .frontends)) (t .streams) k pastStream (past-sound (t .settings .frontends)) (g .0);
             };
         proper = λ k. all-at (isProper (t .clock)) (t .sessions) k noSession (unfold isEmpty in refl) (h .0);
         fits = record { whole = eqb-true _ _ (i .0); bound = leb-true _ _ (i .1) };
@@ -129,6 +129,6 @@ module _ (t : SatBox) where
       (both (at-all (isHoused t) (t .sessions) noSession (λ i. off-housed t (getD (t .sessions) i noSession) (λ dead. count-zero-at (isOn (getD (t .sessions) i noSession .stream)) (t .sessions) i noSession refl (r .seats .homes _ dead)) (case _) (case _)))
       (both (one-owned (t .sessions) 1 (t .streams) (λ k h. let n : 1 + k ≡ suc k = omega arith in rw n (r .seats .owners (suc k) h)))
       (both (count-distinct (frontendsOf (t .streams)) (λ n z. rw (count-map (is-number n) (λ m. m .frontend) (t .streams)) (r .rows .feeds n z)))
-      (both (at-all (isSound (t .frontends)) (t .streams) pastStream (r .rows .sound))
+      (both (at-all (isSound (t .settings .frontends)) (t .streams) pastStream (r .rows .sound))
       (both (at-all (isProper (t .clock)) (t .sessions) noSession (r .proper))
       (both (eq-eqb _ _ (r .fits .whole)) (le-leb _ _ (r .fits .bound)))))))))

@@ -5,16 +5,18 @@ use mathlib.Core.List.{List, [], _∷_, map}
 use lib.Dec.{eqb, leb}
 use Rattle.scan.specs.Classes.{isBetween}
 use Rattle.scan.specs.Lists.{all}
+use Rattle.journal.specs.Bytes.{recordSize}
 use Rattle.stream.specs.Streams.{isSound}
 use Rattle.stream.specs.declared.Stream.{Stream}
 use Rattle.table.specs.Counts.{count, areDistinct}
 use Rattle.table.specs.Table.{isFree, opens, streamOf, isDead, isLive, owns}
 use Rattle.table.specs.declared.Session.{Session}
+use Rattle.table.specs.declared.Settings.{Settings}
 use Rattle.table.specs.declared.SatBox.{SatBox}
 
 -- "frontends F: 1 to 8", "journal size C: 1,024 to 65,536, a multiple of 16"
-abbrev pub areSizes : ℕ → ℕ → Bool
-areSizes frontends size = isBetween 1 8 frontends && (isBetween 1024 65536 size && eqb (size % 16) 0)
+abbrev pub areSizes : Settings → Bool
+areSizes s = isBetween 1 8 (s .frontends) && (isBetween 1024 65536 (s .size) && eqb (s .size % recordSize) 0)
 
 -- "open session numbers non-zero and distinct": a place whose number is zero is not open
 abbrev pub numbersOf : List Session → List ℕ
@@ -35,29 +37,27 @@ frontendsOf ms = map (λ m. m .frontend) ms
 
 -- of a session, "every value in range", its port and flags among them, and "no session's last time is past the clock"
 unfoldable pub isSeated : ℕ → Session → Bool
-isSeated clock s =
-    isBetween 1024 65534 (s .port) && eqb (s .port % 2) 0 && leb (s .owner) 1 && leb (s .playing) 1 && leb (s .last) clock
+isSeated clock s = isBetween 1024 65534 (s .port) && eqb (s .port % 2) 0 && leb (s .owner) 1 && leb (s .playing) 1 && leb (s .last) clock
 
 -- "unused places all zeros"
 unfoldable pub isEmpty : Session → Bool
-isEmpty s =
-    eqb (s .address) 0 && eqb (s .last) 0 && eqb (s .port) 0 && eqb (s .stream) 0 && eqb (s .owner) 0 && eqb (s .playing) 0
+isEmpty s = eqb (s .address) 0 && eqb (s .last) 0 && eqb (s .port) 0 && eqb (s .stream) 0 && eqb (s .owner) 0 && eqb (s .playing) 0
 
 abbrev pub isProper : ℕ → Session → Bool
 isProper clock s = cond (isFree s) (isEmpty s) (isSeated clock s)
 
 -- "bytes held a multiple of 16; bytes held plus 16 per open session at most C"
 abbrev pub fits : SatBox → Bool
-fits t = eqb (t .held % 16) 0 && leb (t .held + 16 * opens t) (t .size)
+fits t = eqb (t .held % recordSize) 0 && leb (t .held + recordSize * opens t) (t .settings .size)
 
 -- all of them; a stream's own rules are `isSound`
 unfoldable pub wellFormed : SatBox → Bool
 wellFormed t =
-    areSizes (t .frontends) (t .size)
+    areSizes (t .settings)
     && (areDistinct (numbersOf (t .sessions))
     && (all (isHoused t) (t .sessions)
     && (areOwned (t .sessions) 1 (t .streams)
     && (areDistinct (frontendsOf (t .streams))
-    && (all (isSound (t .frontends)) (t .streams)
+    && (all (isSound (t .settings .frontends)) (t .streams)
     && (all (isProper (t .clock)) (t .sessions)
     && fits t))))))

@@ -10,7 +10,7 @@ use Rattle.stream.specs.Streams.{noStream, blank, areZero, isSound}
 use Rattle.stream.specs.declared.Stream.{Stream}
 use Rattle.table.specs.Table.{noSession}
 use Rattle.table.specs.Formed.{isSeated, isEmpty, wellFormed}
-use Rattle.table.specs.Made.{fresh, madeOf}
+use Rattle.table.specs.Made.{settingsOf, fresh, madeOf}
 use Rattle.table.specs.declared.Refusal.the-variants.{Sizes}
 use Rattle.table.specs.declared.Outcome.the-variants.{Done, Refused}
 use Rattle.table.specs.declared.Session.{Session}
@@ -39,21 +39,21 @@ abbrev pub rows : List Stream → List Stream
 rows ms = ms ++ replicate (8 - length ms) noStream
 
 -- making a box: F is 1 to 8, C is 1,024 to 65,536 and a multiple of 16
-pub made : (madeOf 1 1024 .outcome ≡ Done) × (madeOf 8 65536 .outcome ≡ Done) × (madeOf 2 1040 .outcome ≡ Done)
+pub made : (madeOf (settingsOf 1 1024) .outcome ≡ Done) × (madeOf (settingsOf 8 65536) .outcome ≡ Done) × (madeOf (settingsOf 2 1040) .outcome ≡ Done)
 unfolding madeOf
 made = (refl, refl, refl)
 
-pub not-made : (madeOf 0 1024 .outcome ≡ Refused Sizes) × (madeOf 9 1024 .outcome ≡ Refused Sizes) × (madeOf 2 1008 .outcome ≡ Refused Sizes) × (madeOf 2 1032 .outcome ≡ Refused Sizes) × (madeOf 2 65552 .outcome ≡ Refused Sizes)
+pub not-made : (madeOf (settingsOf 0 1024) .outcome ≡ Refused Sizes) × (madeOf (settingsOf 9 1024) .outcome ≡ Refused Sizes) × (madeOf (settingsOf 2 1008) .outcome ≡ Refused Sizes) × (madeOf (settingsOf 2 1032) .outcome ≡ Refused Sizes) × (madeOf (settingsOf 2 65552) .outcome ≡ Refused Sizes)
 unfolding madeOf
 not-made = (refl, refl, refl, refl, refl)
 
 -- a box with F = 2 and C = 1,024
 abbrev pub box : ℕ → ℕ → List Session → List Stream → SatBox
 box held clock l ms =
-    record { sessions = places l; streams = rows ms; size = 1024; held = held; clock = clock; sequence = 0; frontends = 2 }
+    record { sessions = places l; streams = rows ms; settings = settingsOf 2 1024; held = held; clock = clock; sequence = 0; spare = 0 }
 
 pub record WellFormed : Type 0 where
-  pub fresh-box : wellFormed (fresh 2 1024) ≡ true
+  pub fresh-box : wellFormed (fresh (settingsOf 2 1024)) ≡ true
   pub joined : wellFormed (box 0 10 (owner 1 ∷ joiner 2 ∷ []) (blank 1 ∷ [])) ≡ true
   -- EDGES 1.4: long expired; and an ID above F
   pub expired : wellFormed (box 0 100000 (owner 1 ∷ []) (blank 1 ∷ [])) ≡ true

@@ -48,6 +48,16 @@ isDead m = eqb (m .frontend) 0
 abbrev pub isLive : Stream → Bool
 isLive m = not (isDead m)
 
+-- a table with other sessions and streams, bytes held, clock and sequence; what is "fixed when the box is made" stays
+abbrev pub boxWith : List Session → List Stream → ℕ → ℕ → ℕ → SatBox → SatBox
+boxWith sessions streams held clock sequence t =
+    record { sessions = sessions; streams = streams; settings = t .settings; held = held; clock = clock; sequence = sequence; spare = t .spare }
+
+-- a session with another last time and port, playing or not; all else is "from its opening"
+abbrev pub sessionWith : ℕ → ℕ → ℕ → Session → Session
+sessionWith last port plays s =
+    record { number = s .number; address = s .address; last = last; port = port; stream = s .stream; owner = s .owner; playing = plays }
+
 -- a session is open and on the stream of an ID; and owns it
 abbrev pub isOn : ℕ → Session → Bool
 isOn id s = isOpen s && eqb (s .stream) id

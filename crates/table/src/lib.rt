@@ -7,6 +7,7 @@ pub use numbers::is_among;
 ghost use mathlib.Core.Path.{_≡_};
 ghost use Rattle.table.specs.Formed.{areSizes};
 ghost use Rattle.table.specs.Made.{numberOf, madeOf};
+use journal::Record;
 use stream::Stream;
 
 // One session's place: free exactly if its number is 0. The fields fill it without a gap, so that every byte belongs to one.
@@ -34,16 +35,33 @@ impl Session {
     };
 }
 
-// The box: its places, the journal's size and the bytes held of it, the clock, the sequence of the next record, and its frontends.
+// What is fixed when a box is made: the journal's size and the frontends. The spare bytes are nobody's: they fill the struct.
+#[repr(C)]
+pub struct Settings {
+    pub size: u32,
+    pub frontends: u16,
+    pub spare: u16,
+}
+
+impl Settings {
+    // Those of a box that was refused.
+    pub const NONE: Settings = Settings {
+        size: 0,
+        frontends: 0,
+        spare: 0,
+    };
+}
+
+// The box: its places, what is fixed, the bytes held of the journal, the clock and the sequence of the next record; and the bytes that fill it.
 #[repr(C)]
 pub struct SatBox {
     pub sessions: [Session; 32],
     pub streams: [Stream; 8],
-    pub size: u32,
+    pub settings: Settings,
     pub held: u32,
     pub clock: u32,
     pub sequence: u16,
-    pub frontends: u16,
+    pub spare: u16,
 }
 
 // Why a call was refused.
@@ -86,7 +104,7 @@ impl SatBox {
     pub const MOST_SIZE: u32 = 65536;
 
     // The bytes that a record takes in the journal.
-    pub const RECORD: u32 = 16;
+    pub const RECORD: u32 = Record::SIZE as u32;
 
     pub const TIMEOUT: u32 = 60;
 
@@ -94,17 +112,17 @@ impl SatBox {
     pub const ANSWER: usize = 4096;
 
     // A box with nothing open, its clock at 0.
-    pub fn fresh(frontends: u16, size: u32) -> Made
-        ensures { λ r. ⌜ r ≡ madeOf frontends size ⌝ }
+    pub fn fresh(settings: Settings) -> Made
+        ensures { λ r. ⌜ r ≡ madeOf settings ⌝ }
     {
-        if are_sizes(frontends, size) {
+        if are_sizes(settings) {
             Made {
-                satbox: empty(frontends, size),
+                satbox: empty(settings),
                 outcome: Outcome::Done,
             }
         } else {
             Made {
-                satbox: empty(0, 0),
+                satbox: empty(Settings::NONE),
                 outcome: Outcome::Refused(Refusal::Sizes),
             }
         }
@@ -112,25 +130,27 @@ impl SatBox {
 }
 
 // Whether F and C are in range.
-pub fn are_sizes(frontends: u16, size: u32) -> bool
-    ensures { λ r. ⌜ r ≡ areSizes frontends size ⌝ }
+pub fn are_sizes(settings: Settings) -> bool
+    ensures { λ r. ⌜ r ≡ areSizes settings ⌝ }
 {
+    let frontends = settings.frontends;
+    let size = settings.size;
     ((1 <= frontends) & (frontends <= SatBox::MOST_FRONTENDS))
         & (((SatBox::LEAST_SIZE <= size) & (size <= SatBox::MOST_SIZE))
             & (size % SatBox::RECORD == 0))
 }
 
-fn empty(frontends: u16, size: u32) -> SatBox
-    ensures { λ r. ⌜ r ≡ Rattle.table.specs.Made.fresh frontends size ⌝ }
+fn empty(settings: Settings) -> SatBox
+    ensures { λ r. ⌜ r ≡ Rattle.table.specs.Made.fresh settings ⌝ }
 {
     SatBox {
         sessions: [Session::NONE; 32],
         streams: [Stream::NONE; 8],
-        size,
+        settings,
         held: 0,
         clock: 0,
         sequence: 0,
-        frontends,
+        spare: 0,
     }
 }
 

@@ -7,7 +7,7 @@ use lib.ListN.{length, drop, length-append, length-take}
 use borrow.Author.Needs.{needs}
 use borrow.Author.Tests.{eq-eqb, le-ltb}
 use Rattle.io.specs.Counts.{Counts}
-use Rattle.table.specs.Made.{fresh, madeOf}
+use Rattle.table.specs.Made.{settingsOf, fresh, madeOf}
 use Rattle.table.specs.declared.Made.{Made}
 use Rattle.table.specs.declared.Outcome.the-variants.{Done}
 use Rattle.table.proofs.Fresh.{fresh-formed}
@@ -25,10 +25,10 @@ counts p q =
 
 module _ (s b j : List ℕ) (h : length j ≡ 1024) (g : 4096 ≤ length b) where
   -- a fresh box, its journal and a buffer that is long enough are not refused
-  done : requestOutcome (fresh 2 1024) j b ≡ Done
-  done = rw (fresh-formed 2 1024 refl, eq-eqb (length j) 1024 h, le-ltb (length b) 4096 g) refl
+  done : requestOutcome (fresh (settingsOf 2 1024)) j b ≡ Done
+  done = rw (fresh-formed (settingsOf 2 1024) refl, eq-eqb (length j) 1024 h, le-ltb (length b) 4096 g) refl
 
-  answers : {m : Made} {x : Replied} {d : List ℕ} → m ≡ madeOf 2 1024 → x ≡ replied s 0 0xC0A8B227 1 (m .satbox) b j
+  answers : {m : Made} {x : Replied} {d : List ℕ} → m ≡ madeOf (settingsOf 2 1024) → x ≡ replied s 0 0xC0A8B227 1 (m .satbox) b j
       → d ≡ repliedInto s 0 0xC0A8B227 1 (m .satbox) b j
       → ((x .count ≡ length (answered s)) × (d ≡ answered s ++ drop (x .count) b)) × Counts (x .count) d
   unfolding madeOf replied repliedInto

@@ -5,7 +5,7 @@ use Rattle.door.proofs.turns.order.Statement.{statement}
 use Rattle.door.proofs.turns.order.Tie as tie
 
 returns : tie.Need-returns
-returns c = (rw (c .before .order-number .ensures, c .is-on .ensures, c .before .before .before .frontend-order .ensures), refl)
+returns c = (rw (c .ordered-as .ensures, c .before .frontend-order .ensures), refl)
 
 pub order-spec : {M : Type 1} → statement M
-order-spec = tie.close (tie.spec (λ c κs. search needs) (λ c κs. search needs) (λ c κs. search needs) returns)
+order-spec = tie.close (tie.spec (λ c κs. search needs) (λ c κs. search needs) returns)

@@ -11,5 +11,5 @@ fresh-spec =
     (λ c κs. search needs)
     (λ c κs. search needs)
     (λ c κs. search needs)
-    (λ c. made _ _ (c .before .before .are-sizes .ensures) (c .before .if1 .taken) (c .empty .ensures))
-    (λ c. refused _ _ (c .before .before .are-sizes .ensures) (c .before .if1 .left) (c .empty2 .ensures)))
+    (λ c. made _ (c .before .before .are-sizes .ensures) (c .before .if1 .taken) (c .empty .ensures))
+    (λ c. refused _ (c .before .before .are-sizes .ensures) (c .before .if1 .left) (c .empty2 .ensures)))
