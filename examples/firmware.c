@@ -97,6 +97,10 @@ int main(void)
 {
     struct satbox_reply r;
 
+    if (satbox_version() != SATBOX_VERSION) {
+        fputs("the archive is not that of satbox.h\n", stderr);
+        return 1;
+    }
     printf("make: refusal %u\n", (unsigned)satbox_make(&box, 2u, JOURNAL));
     ask(0, 0x2A5F00C1u,
         "SETUP rtsp://10.0.0.5/?freq=11538&pol=v&msys=dvbs&sr=22000&fec=56&pids=0,611 RTSP/1.0\r\n"

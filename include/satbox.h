@@ -1,5 +1,6 @@
 /*
- * satbox.h: the control part of a SAT>IP box, for the firmware that links target/staticlib/libdoor.a.
+ * satbox.h: the control part of a SAT>IP box, for the firmware that links its archive: libsatbox.a of a release, which bin/release makes of
+ * the repository's target/staticlib/libdoor.a.
  *
  * The firmware keeps one struct satbox and one journal, and lends them to each call. The library keeps nothing between two calls: no
  * heap, no variable of its own, no pointer, no thread, no clock, no socket. It needs memcpy and memset, and nothing else.
@@ -23,6 +24,9 @@
 
 #include <stddef.h>
 #include <stdint.h>
+
+/* Version a.b as a number: a in the upper sixteen bits, b in the lower. A firmware compares it with satbox_version when it starts. */
+#define SATBOX_VERSION 0x00010000u      /* 1.0 */
 
 /* Limits. */
 #define SATBOX_FRONTENDS_MIN 1u         /* F, fixed when the box is made */
@@ -48,6 +52,7 @@
 #define SATBOX_STACK_MAKE 1560u
 #define SATBOX_STACK_WRITE_RECORD 80u
 #define SATBOX_STACK_READ_RECORD 56u
+#define SATBOX_STACK_VERSION 8u
 
 /* Refusals. */
 #define SATBOX_DONE 0u
@@ -175,6 +180,12 @@ struct satbox_noted {
     uint32_t refusal;
     uint8_t bytes[SATBOX_RECORD];       /* zeros on refusal */
 };
+
+/*
+ * The version of the archive, the number that SATBOX_VERSION is in its own header. Where it differs, header and archive are of two releases:
+ * make no other call.
+ */
+uint32_t satbox_version(void);
 
 /*
  * Makes a fresh box where box points: nothing open, clock, sequence and bytes held 0. What stood there is gone.

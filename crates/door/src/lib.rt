@@ -15,8 +15,14 @@ ghost use Rattle.orders.specs.Orders.{orderOf};
 ghost use Rattle.journal.specs.Calls.{readAt};
 ghost use Rattle.door.specs.Records.{readFrom, writeReply};
 ghost use Rattle.door.specs.Turns.{numberIn, replyOf, orderedAs};
+ghost use Rattle.door.specs.Version.{versionNumber};
 use journal::Record;
 use table::SatBox;
+
+// The two numbers of the file VERSION.
+const FIRST: u32 = 1;
+
+const SECOND: u32 = 0;
 
 // Makes a fresh box of the one that is lent; where that is refused, it stays.
 #[no_mangle]
@@ -99,4 +105,12 @@ pub extern "C" fn satbox_write_record(entry: Record) -> Noted
     ensures { λ r. ⌜ r ≡ writeReply entry ⌝ }
 {
     records::write(entry)
+}
+
+// The version of this archive, which `satbox.h` has as `SATBOX_VERSION`.
+#[no_mangle]
+pub extern "C" fn satbox_version() -> u32
+    ensures { λ r. ⌜ r ≡ versionNumber ⌝ }
+{
+    FIRST * 65536 + SECOND
 }
