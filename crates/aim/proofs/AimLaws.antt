@@ -18,7 +18,7 @@ use Rattle.target.specs.Steps.{UriIs}
 use Rattle.target.specs.declared.Uri.{Uri}
 use Rattle.aim.specs.Query.{isQuery, areWithin, codeFrom, textOf, nowhere}
 use Rattle.aim.specs.Found.{QueryIs, Reached, refusedAim, verdictOf, isSpan, AimIs, judged}
-use Rattle.refusals.specs.Refusals.{_refuses_or_, isPassed}
+use Rattle.refusals.specs.Refusals.{_refuses_or_, isRead}
 use Rattle.aim.specs.Aim.{takesNoQuery, hasStream, lacksStream, uriRefusal}
 use Rattle.refusals.specs.declared.Refusal.{Refusal}
 use Rattle.refusals.specs.declared.Refusal.the-variants.{Passed, UriLong, UriForm, QueryUntaken, QueryForm, NoStream}
@@ -27,9 +27,9 @@ use Rattle.aim.specs.declared.Aim.{Aim}
 use Rattle.aim.specs.declared.query.Query.{Query}
 
 -- a refused URI
-pub aim-refused : {frontends : ℕ} {method : Method} {u : List ℕ} {r : Aim} {x : Refusal} → isPassed x ≡ false → x ≡ uriRefusal frontends method u → r ≡ refusedAim x → AimIs frontends method u r
+pub aim-refused : {frontends : ℕ} {method : Method} {u : List ℕ} {r : Aim} {x : Refusal} → isRead x ≡ false → x ≡ uriRefusal frontends method u → r ≡ refusedAim x → AimIs frontends method u r
 aim-refused {x = x} n e q =
-    let no-pass : x ≡ Passed → ⊥ = λ y. let z : true ≡ false = ap isPassed (sym y) ∙ n in let w : _≡_ {A = ℕ} 0 1 = cc in omega arith in
+    let no-pass : x ≡ Passed → ⊥ = λ y. let z : true ≡ false = ap isRead (sym y) ∙ n in let w : _≡_ {A = ℕ} 0 1 = cc in omega arith in
     rw q
     (record {
       refusal = e;
@@ -129,7 +129,7 @@ module _ (frontends : ℕ) (method : Method) (u : List ℕ) {t : Uri} (r : Reach
           d ∙ rw (given 10, given 11, given 12, own .within y, stream-named frontends method u r g)
           (sym (chain frontends method u r ∙ rw (sym e ∙ n, sym (own .sound) ∙ y)))
 
-      pub asked-passed : isPassed v ≡ true
+      pub asked-passed : isRead v ≡ true
           → AimIs frontends method u (record { codes = q .codes; spans = q .spans; refusal = v; stream = t .stream; host = t .host; query = record { start = t .query; end = length u } })
       asked-passed p =
           record {

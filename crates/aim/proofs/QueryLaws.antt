@@ -20,7 +20,7 @@ use Rattle.digits.specs.Reading.{isValue}
 use Rattle.digits.specs.declared.Read.{Read}
 use Rattle.tuning.specs.Values.{attributeOf, valueOf}
 use Rattle.aim.specs.Query.{attributeIn, areParts, isQuery, areWithin, codeFrom, codeOf, textOf, nowhere, partsOf}
-use Rattle.aim.specs.Found.{codeAmong, textAmong, isPart, equals, valueIn, isAmong, isWithin, startAmong, startOf, PartIs, brokenQuery, QueryIs}
+use Rattle.aim.specs.Found.{codeAmong, textAmong, isPart, equals, partValue, isNamedBefore, isWithin, startAmong, startOf, PartIs, brokenQuery, QueryIs}
 use Rattle.aim.specs.declared.query.Part.{Part}
 use Rattle.aim.specs.declared.query.Query.{Query}
 use Rattle.tuning.proofs.Words.{value-none}
@@ -47,9 +47,9 @@ is-part p h = by-cases (decLt (equals p + 1) (length p)) (λ l. lt-ltb (equals p
         absurd (omega arith)
 
 -- an attribute that is not among those taken differs from each
-untaken : (a : ℕ) (taken : List ℕ) → all (λ b. not (eqb a b)) taken ≡ not (isAmong a taken)
+untaken : (a : ℕ) (taken : List ℕ) → all (λ b. not (eqb a b)) taken ≡ not (isNamedBefore a taken)
 untaken a [] = refl
-untaken a (b ∷ bs) = by-test (λ t. not t && all (λ c. not (eqb a c)) bs ≡ not (t || isAmong a bs)) (eqb a b) (λ _. refl) (λ _. untaken a bs)
+untaken a (b ∷ bs) = by-test (λ t. not t && all (λ c. not (eqb a c)) bs ≡ not (t || isNamedBefore a bs)) (eqb a b) (λ _. refl) (λ _. untaken a bs)
 
 -- and its value stands behind the `=`
 pub value-inside : (q : List ℕ) (p e : ℕ) {r : Part} → e ≤ length q → PartIs (part p e q) r → r .attribute ≤ 12 → p + r .value < e
@@ -66,10 +66,10 @@ pub text-among : (a : ℕ) (q : List ℕ) → textOf a q ≡ textAmong a (partsO
 unfolding textOf
 text-among a q = among (partsOf q)
   where
-    among : (ps : List (List ℕ)) → valueIn (getD ps (first (λ p. eqb (attributeIn p) a) ps) []) ≡ textAmong a ps
+    among : (ps : List (List ℕ)) → partValue (getD ps (first (λ p. eqb (attributeIn p) a) ps) []) ≡ textAmong a ps
     among [] = refl
     among (p ∷ ps) =
-        by-test (λ t. valueIn (getD (p ∷ ps) (cond t 0 (suc (first (λ x. eqb (attributeIn x) a) ps))) []) ≡ cond t (valueIn p) (textAmong a ps)) (eqb (attributeIn p) a)
+        by-test (λ t. partValue (getD (p ∷ ps) (cond t 0 (suc (first (λ x. eqb (attributeIn x) a) ps))) []) ≡ cond t (partValue p) (textAmong a ps)) (eqb (attributeIn p) a)
         (λ _. refl)
         (λ _. among ps)
 
@@ -80,7 +80,7 @@ code-among frontends a q = ap (λ xs. codeFrom (valueOf frontends a xs)) (text-a
     among : (ps : List (List ℕ)) → codeFrom (valueOf frontends a (textAmong a ps)) ≡ codeAmong frontends a ps
     among [] = ap codeFrom (value-none frontends a)
     among (p ∷ ps) =
-        by-test (λ t. codeFrom (valueOf frontends a (cond t (valueIn p) (textAmong a ps))) ≡ cond t (codeFrom (valueOf frontends a (valueIn p))) (codeAmong frontends a ps)) (eqb (attributeIn p) a)
+        by-test (λ t. codeFrom (valueOf frontends a (cond t (partValue p) (textAmong a ps))) ≡ cond t (codeFrom (valueOf frontends a (partValue p))) (codeAmong frontends a ps)) (eqb (attributeIn p) a)
         (λ _. refl)
         (λ _. among ps)
 
@@ -96,13 +96,13 @@ pub record Asking (frontends : ℕ) (q : List ℕ) (p : ℕ) (codes : List ℕ) 
   pub wide : length spans ≡ 13
   pub taken : List ℕ
   pub form : areParts taken (cutFrom 38 p q) ≡ isQuery q
-  pub marked : (a : ℕ) → isAmong a taken ≡ not (eqb (getD spans a nowhere .end) 0)
+  pub marked : (a : ℕ) → isNamedBefore a taken ≡ not (eqb (getD spans a nowhere .end) 0)
   pub values : w && all (isWithin frontends) (cutFrom 38 p q) ≡ areWithin frontends q
-  pub coded : (a : ℕ) → codeOf frontends a q ≡ cond (isAmong a taken) (getD codes a 0) (codeAmong frontends a (cutFrom 38 p q))
-  pub blank : (a : ℕ) → isAmong a taken ≡ false → getD codes a 0 ≡ 0
-  pub begins : (a : ℕ) → startOf a q ≡ cond (isAmong a taken) (getD spans a nowhere .start) (startAmong a p (cutFrom 38 p q))
-  pub unbegun : (a : ℕ) → isAmong a taken ≡ false → getD spans a nowhere .start ≡ 0
-  pub held : (a : ℕ) → Spanned q (textOf a q) (textAmong a (cutFrom 38 p q)) (isAmong a taken) (getD spans a nowhere)
+  pub coded : (a : ℕ) → codeOf frontends a q ≡ cond (isNamedBefore a taken) (getD codes a 0) (codeAmong frontends a (cutFrom 38 p q))
+  pub blank : (a : ℕ) → isNamedBefore a taken ≡ false → getD codes a 0 ≡ 0
+  pub begins : (a : ℕ) → startOf a q ≡ cond (isNamedBefore a taken) (getD spans a nowhere .start) (startAmong a p (cutFrom 38 p q))
+  pub unbegun : (a : ℕ) → isNamedBefore a taken ≡ false → getD spans a nowhere .start ≡ 0
+  pub held : (a : ℕ) → Spanned q (textOf a q) (textAmong a (cutFrom 38 p q)) (isNamedBefore a taken) (getD spans a nowhere)
 
 pub asking-start : (frontends : ℕ) (q : List ℕ) → Asking frontends q 0 (replicate 13 0) (replicate 13 nowhere) true
 unfolding isQuery areWithin startOf
@@ -142,9 +142,9 @@ asking-end {frontends} {q} {p} {codes} {spans} {w} k h =
     record {
       sound = sym (ap (areParts (k .taken)) none) ∙ k .form;
       within = λ _. sym (ap (λ l. w && all (isWithin frontends) l) none ∙ and-true w) ∙ k .values;
-      codes = λ _ a. sym (k .coded a ∙ ap (λ l. cond (isAmong a (k .taken)) (getD codes a 0) (codeAmong frontends a l)) none ∙ coded a);
+      codes = λ _ a. sym (k .coded a ∙ ap (λ l. cond (isNamedBefore a (k .taken)) (getD codes a 0) (codeAmong frontends a l)) none ∙ coded a);
       spans = λ _ a. spanned a (k .held a);
-      starts = λ _ a. sym (k .begins a ∙ ap (λ l. cond (isAmong a (k .taken)) (getD spans a nowhere .start) (startAmong a p l)) none ∙ begun a);
+      starts = λ _ a. sym (k .begins a ∙ ap (λ l. cond (isNamedBefore a (k .taken)) (getD spans a nowhere .start) (startAmong a p l)) none ∙ begun a);
       thirteen = (k .long, k .wide);
       broken = λ n. never refl n;
     }
@@ -153,21 +153,21 @@ asking-end {frontends} {q} {p} {codes} {spans} {w} k h =
     and-true true = refl
     and-true false = refl
 
-    coded : (a : ℕ) → cond (isAmong a (k .taken)) (getD codes a 0) 0 ≡ getD codes a 0
-    coded a = by-test (λ t. cond t (getD codes a 0) 0 ≡ getD codes a 0) (isAmong a (k .taken)) (λ _. refl) (λ n. sym (k .blank a n))
+    coded : (a : ℕ) → cond (isNamedBefore a (k .taken)) (getD codes a 0) 0 ≡ getD codes a 0
+    coded a = by-test (λ t. cond t (getD codes a 0) 0 ≡ getD codes a 0) (isNamedBefore a (k .taken)) (λ _. refl) (λ n. sym (k .blank a n))
 
-    begun : (a : ℕ) → cond (isAmong a (k .taken)) (getD spans a nowhere .start) 0 ≡ getD spans a nowhere .start
+    begun : (a : ℕ) → cond (isNamedBefore a (k .taken)) (getD spans a nowhere .start) 0 ≡ getD spans a nowhere .start
     begun a =
-        by-test (λ t. cond t (getD spans a nowhere .start) 0 ≡ getD spans a nowhere .start) (isAmong a (k .taken)) (λ _. refl) (λ n. sym (k .unbegun a n))
+        by-test (λ t. cond t (getD spans a nowhere .start) 0 ≡ getD spans a nowhere .start) (isNamedBefore a (k .taken)) (λ _. refl) (λ n. sym (k .unbegun a n))
 
-    spanned : (a : ℕ) → Spanned q (textOf a q) (textAmong a (cutFrom 38 p q)) (isAmong a (k .taken)) (getD spans a nowhere) → Holds q (textOf a q) (getD spans a nowhere .start) (getD spans a nowhere .end)
-    spanned a s = by-test (λ t. isAmong a (k .taken) ≡ t → Holds q (textOf a q) (getD spans a nowhere .start) (getD spans a nowhere .end)) (isAmong a (k .taken)) (λ _ y. s .there y) (λ _ n. rw (s .later n .0 ∙ ap (textAmong a) (cut-end 38 p q h)) (s .later n .1)) refl
+    spanned : (a : ℕ) → Spanned q (textOf a q) (textAmong a (cutFrom 38 p q)) (isNamedBefore a (k .taken)) (getD spans a nowhere) → Holds q (textOf a q) (getD spans a nowhere .start) (getD spans a nowhere .end)
+    spanned a s = by-test (λ t. isNamedBefore a (k .taken) ≡ t → Holds q (textOf a q) (getD spans a nowhere .start) (getD spans a nowhere .end)) (isNamedBefore a (k .taken)) (λ _ y. s .there y) (λ _ n. rw (s .later n .0 ∙ ap (textAmong a) (cut-end 38 p q h)) (s .later n .1)) refl
 
 module _ {frontends : ℕ} {q : List ℕ} {p e : ℕ} {codes : List ℕ} {spans : List Span} {w : Bool} {r : Part} (k : Asking frontends q p codes spans w) (h : p ≤ length q) (f : FirstFrom (is 38) q p e) (i : PartIs (part p e q) r) where
   turned : cutFrom 38 p q ≡ part p e q ∷ cutFrom 38 (e + 1) q
   turned = cut-turn 38 p q h (f .is)
 
-  form-turned : isQuery q ≡ ltb (r .attribute) 13 && (not (isAmong (r .attribute) (k .taken)) && areParts (r .attribute ∷ k .taken) (cutFrom 38 (e + 1) q))
+  form-turned : isQuery q ≡ ltb (r .attribute) 13 && (not (isNamedBefore (r .attribute) (k .taken)) && areParts (r .attribute ∷ k .taken) (cutFrom 38 (e + 1) q))
   form-turned = sym (k .form) ∙ ap (areParts (k .taken)) turned ∙ rw (← i .attribute, untaken (r .attribute) (k .taken))
 
   pub asking-unknown : 12 < r .attribute → isQuery q ≡ false
@@ -181,20 +181,20 @@ module _ {frontends : ℕ} {q : List ℕ} {p e : ℕ} {codes : List ℕ} {spans 
     abbrev b : ℕ
     b = r .attribute
 
-    free : isAmong b (k .taken) ≡ false
+    free : isNamedBefore b (k .taken) ≡ false
     free = k .marked b ∙ ap not (eq-eqb (getD spans b nowhere .end) 0 new)
 
     bounds : p + r .value < e
     bounds = value-inside q p e (omega (arith, f .within)) i few
 
-    value-is : part (p + r .value) e q ≡ valueIn (part p e q)
+    value-is : part (p + r .value) e q ≡ partValue (part p e q)
     value-is =
         let n : length (part p e q) ≡ e - p = part-length p e q (omega (arith, f .within)) in
         let m : p + (e - p) ≡ e = omega (arith, f .from) in
         ap (λ j. part (p + r .value) j q) (sym m) ∙ sym (part-part (r .value) (e - p) p e q (omega arith))
         ∙ part-rest (r .value) (e - p) (part p e q) (omega arith) ∙ ap (λ j. drop j (part p e q)) (i .value)
 
-    v-is : v ≡ valueOf frontends b (valueIn (part p e q))
+    v-is : v ≡ valueOf frontends b (partValue (part p e q))
     v-is = read ∙ ap (valueOf frontends b) value-is
 
     abbrev here : Span
@@ -224,13 +224,13 @@ module _ {frontends : ℕ} {q : List ℕ} {p e : ℕ} {codes : List ℕ} {spans 
         other-span : (a : ℕ) → (a ≡ b → ⊥) → getD (set spans b here) a nowhere ≡ getD spans a nowhere
         other-span a z = getD-set-other spans b a here nowhere z
 
-        among : (a : ℕ) → (a ≡ b → ⊥) → isAmong a (b ∷ k .taken) ≡ isAmong a (k .taken)
+        among : (a : ℕ) → (a ≡ b → ⊥) → isNamedBefore a (b ∷ k .taken) ≡ isNamedBefore a (k .taken)
         among a z = rw (ne-eqb a b z)
 
-        marked-here : (a : ℕ) → a ≡ b → isAmong a (b ∷ k .taken) ≡ not (eqb (getD (set spans b here) a nowhere .end) 0)
+        marked-here : (a : ℕ) → a ≡ b → isNamedBefore a (b ∷ k .taken) ≡ not (eqb (getD (set spans b here) a nowhere .end) 0)
         marked-here a z = rw (same-span a z, eq-eqb a b z, ne-eqb e 0 (λ y. omega (arith, bounds)))
 
-        marked-there : (a : ℕ) → (a ≡ b → ⊥) → isAmong a (b ∷ k .taken) ≡ not (eqb (getD (set spans b here) a nowhere .end) 0)
+        marked-there : (a : ℕ) → (a ≡ b → ⊥) → isNamedBefore a (b ∷ k .taken) ≡ not (eqb (getD (set spans b here) a nowhere .end) 0)
         marked-there a z = among a z ∙ k .marked a ∙ ap (λ (s : Span). not (eqb (s .end) 0)) (sym (other-span a z))
 
         assoc : (x y z : Bool) → (x && y) && z ≡ x && (y && z)
@@ -240,23 +240,23 @@ module _ {frontends : ℕ} {q : List ℕ} {p e : ℕ} {codes : List ℕ} {spans 
         values : (w && isValue v) && all (isWithin frontends) (cutFrom 38 (e + 1) q) ≡ areWithin frontends q
         values =
             assoc w (isValue v) (all (isWithin frontends) (cutFrom 38 (e + 1) q))
-            ∙ ap (λ x. w && (x && all (isWithin frontends) (cutFrom 38 (e + 1) q))) (ap isValue (v-is ∙ ap (λ j. valueOf frontends j (valueIn (part p e q))) (i .attribute)))
+            ∙ ap (λ x. w && (x && all (isWithin frontends) (cutFrom 38 (e + 1) q))) (ap isValue (v-is ∙ ap (λ j. valueOf frontends j (partValue (part p e q))) (i .attribute)))
             ∙ ap (λ l. w && all (isWithin frontends) l) (sym turned) ∙ k .values
 
-        code-turned : (a : ℕ) → codeAmong frontends a (cutFrom 38 p q) ≡ cond (eqb b a) (codeFrom (valueOf frontends a (valueIn (part p e q)))) (codeAmong frontends a (cutFrom 38 (e + 1) q))
+        code-turned : (a : ℕ) → codeAmong frontends a (cutFrom 38 p q) ≡ cond (eqb b a) (codeFrom (valueOf frontends a (partValue (part p e q)))) (codeAmong frontends a (cutFrom 38 (e + 1) q))
         code-turned a = ap (codeAmong frontends a) turned ∙ rw (← i .attribute)
 
-        coded-here : (a : ℕ) → a ≡ b → codeOf frontends a q ≡ cond (isAmong a (b ∷ k .taken)) (getD (set codes b (codeFrom v)) a 0) (codeAmong frontends a (cutFrom 38 (e + 1) q))
+        coded-here : (a : ℕ) → a ≡ b → codeOf frontends a q ≡ cond (isNamedBefore a (b ∷ k .taken)) (getD (set codes b (codeFrom v)) a 0) (codeAmong frontends a (cutFrom 38 (e + 1) q))
         coded-here a z =
             k .coded a ∙ rw (z, free) (code-turned b ∙ rw (eq-eqb b b refl, getD-set-same codes b (codeFrom v) 0 (omega (arith, few, k .long))) (ap codeFrom (sym v-is)))
 
-        coded-there : (a : ℕ) → (a ≡ b → ⊥) → codeOf frontends a q ≡ cond (isAmong a (b ∷ k .taken)) (getD (set codes b (codeFrom v)) a 0) (codeAmong frontends a (cutFrom 38 (e + 1) q))
+        coded-there : (a : ℕ) → (a ≡ b → ⊥) → codeOf frontends a q ≡ cond (isNamedBefore a (b ∷ k .taken)) (getD (set codes b (codeFrom v)) a 0) (codeAmong frontends a (cutFrom 38 (e + 1) q))
         coded-there a z =
             k .coded a
             ∙ rw (among a z, getD-set-other codes b a (codeFrom v) 0 z)
-            (ap (λ c. cond (isAmong a (k .taken)) (getD codes a 0) c) (code-turned a ∙ rw (ne-eqb b a (λ y. z (sym y)))))
+            (ap (λ c. cond (isNamedBefore a (k .taken)) (getD codes a 0) c) (code-turned a ∙ rw (ne-eqb b a (λ y. z (sym y)))))
 
-        blank-there : (a : ℕ) → (a ≡ b → ⊥) → isAmong a (b ∷ k .taken) ≡ false → getD (set codes b (codeFrom v)) a 0 ≡ 0
+        blank-there : (a : ℕ) → (a ≡ b → ⊥) → isNamedBefore a (b ∷ k .taken) ≡ false → getD (set codes b (codeFrom v)) a 0 ≡ 0
         blank-there a z n = getD-set-other codes b a (codeFrom v) 0 z ∙ k .blank a (sym (among a z) ∙ n)
 
         start-turned : (a : ℕ) → startAmong a p (cutFrom 38 p q) ≡ cond (eqb b a) (p + r .value) (startAmong a (e + 1) (cutFrom 38 (e + 1) q))
@@ -265,30 +265,30 @@ module _ {frontends : ℕ} {q : List ℕ} {p e : ℕ} {codes : List ℕ} {spans 
             let n : p + length (part p e q) + 1 ≡ e + 1 = omega (arith, f .from) in
             ap (startAmong a p) turned ∙ rw (← i .attribute, ← i .value, n)
 
-        begins-here : (a : ℕ) → a ≡ b → startOf a q ≡ cond (isAmong a (b ∷ k .taken)) (getD (set spans b here) a nowhere .start) (startAmong a (e + 1) (cutFrom 38 (e + 1) q))
+        begins-here : (a : ℕ) → a ≡ b → startOf a q ≡ cond (isNamedBefore a (b ∷ k .taken)) (getD (set spans b here) a nowhere .start) (startAmong a (e + 1) (cutFrom 38 (e + 1) q))
         begins-here a z = k .begins a ∙ rw (same-span a z, z, free) (start-turned b ∙ rw (eq-eqb b b refl))
 
-        begins-there : (a : ℕ) → (a ≡ b → ⊥) → startOf a q ≡ cond (isAmong a (b ∷ k .taken)) (getD (set spans b here) a nowhere .start) (startAmong a (e + 1) (cutFrom 38 (e + 1) q))
+        begins-there : (a : ℕ) → (a ≡ b → ⊥) → startOf a q ≡ cond (isNamedBefore a (b ∷ k .taken)) (getD (set spans b here) a nowhere .start) (startAmong a (e + 1) (cutFrom 38 (e + 1) q))
         begins-there a z =
             k .begins a
             ∙ rw (among a z, other-span a z)
-            (ap (λ c. cond (isAmong a (k .taken)) (getD spans a nowhere .start) c) (start-turned a ∙ rw (ne-eqb b a (λ y. z (sym y)))))
+            (ap (λ c. cond (isNamedBefore a (k .taken)) (getD spans a nowhere .start) c) (start-turned a ∙ rw (ne-eqb b a (λ y. z (sym y)))))
 
-        unbegun-there : (a : ℕ) → (a ≡ b → ⊥) → isAmong a (b ∷ k .taken) ≡ false → getD (set spans b here) a nowhere .start ≡ 0
+        unbegun-there : (a : ℕ) → (a ≡ b → ⊥) → isNamedBefore a (b ∷ k .taken) ≡ false → getD (set spans b here) a nowhere .start ≡ 0
         unbegun-there a z n = ap (λ (s : Span). s .start) (other-span a z) ∙ k .unbegun a (sym (among a z) ∙ n)
 
-        text-turned : (a : ℕ) → textAmong a (cutFrom 38 p q) ≡ cond (eqb b a) (valueIn (part p e q)) (textAmong a (cutFrom 38 (e + 1) q))
+        text-turned : (a : ℕ) → textAmong a (cutFrom 38 p q) ≡ cond (eqb b a) (partValue (part p e q)) (textAmong a (cutFrom 38 (e + 1) q))
         text-turned a = ap (textAmong a) turned ∙ rw (← i .attribute)
 
-        held-value : Holds q (valueIn (part p e q)) (p + r .value) e
+        held-value : Holds q (partValue (part p e q)) (p + r .value) e
         held-value = record { order = omega (arith, bounds); within = omega (arith, f .within); is = value-is }
 
-        held-here : (a : ℕ) → a ≡ b → Spanned q (textOf a q) (textAmong a (cutFrom 38 (e + 1) q)) (isAmong a (b ∷ k .taken)) (getD (set spans b here) a nowhere)
+        held-here : (a : ℕ) → a ≡ b → Spanned q (textOf a q) (textAmong a (cutFrom 38 (e + 1) q)) (isNamedBefore a (b ∷ k .taken)) (getD (set spans b here) a nowhere)
         held-here a z =
-            let text : textOf b q ≡ valueIn (part p e q) = k .held b .later free .0 ∙ text-turned b ∙ rw (eq-eqb b b refl) in
+            let text : textOf b q ≡ partValue (part p e q) = k .held b .later free .0 ∙ text-turned b ∙ rw (eq-eqb b b refl) in
             rw (same-span a z, z) (record { there = λ _. rw text held-value; later = λ n. never (rw (eq-eqb b b refl)) n })
 
-        held-there : (a : ℕ) → (a ≡ b → ⊥) → Spanned q (textOf a q) (textAmong a (cutFrom 38 (e + 1) q)) (isAmong a (b ∷ k .taken)) (getD (set spans b here) a nowhere)
+        held-there : (a : ℕ) → (a ≡ b → ⊥) → Spanned q (textOf a q) (textAmong a (cutFrom 38 (e + 1) q)) (isNamedBefore a (b ∷ k .taken)) (getD (set spans b here) a nowhere)
         held-there a z =
             rw (other-span a z, among a z)
             (record {

@@ -4,7 +4,7 @@ use mathlib.Core.Bool.{Bool, not, cond, _&&_, _||_}
 use mathlib.Core.List.{List, []}
 use lib.Dec.{ltb, eqb}
 use lib.ListN.{length}
-use Rattle.target.specs.Uri.{isUri, streamOf, hasQuery, queryOf}
+use Rattle.target.specs.Uri.{isUri, streamNamed, hasQuery, queryOf}
 use Rattle.aim.specs.Query.{isQuery, areWithin, codeOf, textOf, codeFrom}
 use Rattle.refusals.specs.Refusals.{_refuses_or_}
 use Rattle.refusals.specs.declared.Refusal.{Refusal}
@@ -14,20 +14,20 @@ use Rattle.aim.specs.declared.Method.{Method}
 use Rattle.aim.specs.declared.Method.the-variants.{Options, Setup, Play, Teardown, Other}
 
 -- a method's place among OPTIONS, SETUP, PLAY, TEARDOWN, from 0 on; 4 for any other
-abbrev pub placeOf : Method → ℕ
-placeOf Options = 0
-placeOf Setup = 1
-placeOf Play = 2
-placeOf Teardown = 3
-placeOf Other = 4
+abbrev pub methodNumber : Method → ℕ
+methodNumber Options = 0
+methodNumber Setup = 1
+methodNumber Play = 2
+methodNumber Teardown = 3
+methodNumber Other = 4
 
 -- "a query with OPTIONS or TEARDOWN"
 abbrev pub takesNoQuery : Method → Bool
-takesNoQuery method = eqb (placeOf method) 0 || eqb (placeOf method) 3
+takesNoQuery method = eqb (methodNumber method) 0 || eqb (methodNumber method) 3
 
 -- whether a URI names a stream: 0 stands for none
 abbrev pub hasStream : List ℕ → Bool
-hasStream u = not (eqb (codeFrom (streamOf u)) 0)
+hasStream u = not (eqb (codeFrom (streamNamed u)) 0)
 
 -- whether an attribute is given: 10 is pids, 11 addpids, 12 delpids
 abbrev pub isGiven : ℕ → List ℕ → Bool
@@ -39,7 +39,7 @@ edits u = isGiven 11 u || isGiven 12 u
 -- step 10: "PLAY or TEARDOWN without stream, SETUP with neither stream nor query"
 abbrev pub lacksStream : Method → Bool → Bool → Bool
 lacksStream method stream query =
-    (eqb (placeOf method) 2 || eqb (placeOf method) 3 || (eqb (placeOf method) 1 && not query)) && not stream
+    (eqb (methodNumber method) 2 || eqb (methodNumber method) 3 || (eqb (methodNumber method) 1 && not query)) && not stream
 
 unfoldable pub uriRefusal : ℕ → Method → List ℕ → Refusal
 uriRefusal frontends method u =

@@ -12,10 +12,10 @@ use Rattle.aim.specs.declared.query.Query.{Query}
 use Rattle.aim.specs.Query.{areWithin, attributeIn, codeOf, isQuery, nowhere, partsOf, textOf, codeFrom}
 use Rattle.scan.specs.declared.Span.{Span}
 use Rattle.digits.specs.declared.Read.the-variants.{Value as Number}
-use Rattle.target.specs.Uri.{streamOf, hostOf, hasQuery, queryOf}
+use Rattle.target.specs.Uri.{streamNamed, hostOf, hasQuery, queryOf}
 use Rattle.target.specs.Steps.{question, UriIs}
 use Rattle.target.specs.declared.Uri.{Uri}
-use Rattle.refusals.specs.Refusals.{isPassed, _refuses_or_}
+use Rattle.refusals.specs.Refusals.{isRead, _refuses_or_}
 use Rattle.refusals.specs.declared.Refusal.{Refusal}
 use Rattle.refusals.specs.declared.Refusal.the-variants.{Passed, PidsClash, PidsUnstreamed, NoStream}
 use Rattle.aim.specs.declared.Method.{Method}
@@ -34,24 +34,24 @@ equals p = first (is 61) p
 abbrev pub isPart : List ℕ → Bool
 isPart p = ltb (equals p + 1) (length p)
 
-abbrev pub valueIn : List ℕ → List ℕ
-valueIn p = after 61 p
+abbrev pub partValue : List ℕ → List ℕ
+partValue p = after 61 p
 
-abbrev pub isAmong : ℕ → List ℕ → Bool
-isAmong a [] = false
-isAmong a (b ∷ bs) = eqb a b || isAmong a bs
+abbrev pub isNamedBefore : ℕ → List ℕ → Bool
+isNamedBefore a [] = false
+isNamedBefore a (b ∷ bs) = eqb a b || isNamedBefore a bs
 
 abbrev pub isWithin : ℕ → List ℕ → Bool
-isWithin frontends p = isValue (valueOf frontends (attributeIn p) (valueIn p))
+isWithin frontends p = isValue (valueOf frontends (attributeIn p) (partValue p))
 
 -- an attribute's text and code, part by part
 abbrev pub textAmong : ℕ → List (List ℕ) → List ℕ
 textAmong a [] = []
-textAmong a (p ∷ ps) = cond (eqb (attributeIn p) a) (valueIn p) (textAmong a ps)
+textAmong a (p ∷ ps) = cond (eqb (attributeIn p) a) (partValue p) (textAmong a ps)
 
 abbrev pub codeAmong : ℕ → ℕ → List (List ℕ) → ℕ
 codeAmong frontends a [] = 0
-codeAmong frontends a (p ∷ ps) = cond (eqb (attributeIn p) a) (codeFrom (valueOf frontends a (valueIn p))) (codeAmong frontends a ps)
+codeAmong frontends a (p ∷ ps) = cond (eqb (attributeIn p) a) (codeFrom (valueOf frontends a (partValue p))) (codeAmong frontends a ps)
 
 -- where an attribute's text starts in the query, 0 where it is not given
 abbrev pub startAmong : ℕ → ℕ → List (List ℕ) → ℕ
@@ -123,7 +123,7 @@ verdictOf method stream q =
 -- which refusal applies first; where none does, what the URI asks and where that stands
 pub record AimIs (frontends : ℕ) (method : Method) (u : List ℕ) (r : Aim) : Type 0 where
   pub refusal : r .refusal ≡ uriRefusal frontends method u
-  pub stream : r .refusal ≡ Passed → Number (r .stream) ≡ streamOf u
+  pub stream : r .refusal ≡ Passed → Number (r .stream) ≡ streamNamed u
   pub host : r .refusal ≡ Passed → Holds u (hostOf u) (r .host .start) (r .host .end)
   pub query : r .refusal ≡ Passed → Holds u (queryIn u) (r .query .start) (r .query .end)
   pub codes : r .refusal ≡ Passed → (a : ℕ) → getD (r .codes) a 0 ≡ codeIn frontends a u
@@ -131,4 +131,4 @@ pub record AimIs (frontends : ℕ) (method : Method) (u : List ℕ) (r : Aim) : 
   pub host-starts : r .refusal ≡ Passed → r .host .start ≡ 7
   pub query-starts : r .refusal ≡ Passed → r .query .start ≡ queryStart u
   pub starts : r .refusal ≡ Passed → (a : ℕ) → getD (r .spans) a nowhere .start ≡ startIn a u
-  pub refused : isPassed (r .refusal) ≡ false → r ≡ refusedAim (r .refusal)
+  pub refused : isRead (r .refusal) ≡ false → r ≡ refusedAim (r .refusal)

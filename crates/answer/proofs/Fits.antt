@@ -7,6 +7,7 @@ use Prim.Native.String.{String}
 use native.Mathlib.Omega.{arith}
 use lib.Dec.{eqb}
 use lib.ListN.{length, length-append}
+use Rattle.scan.specs.Lists.{_gives_or_}
 use Rattle.scan.specs.Text.{text, _&_}
 use Rattle.scan.proofs.Bools.{cond-keeps}
 use Rattle.writing.specs.Writing.{decimal, dotted}
@@ -14,7 +15,7 @@ use Rattle.digits.specs.declared.Read.{Read}
 use Rattle.digits.specs.declared.Read.the-variants.{Value, Nothing}
 use Rattle.digits.proofs.Limits.{Is-read}
 use Rattle.writing.proofs.Numerals.{decimal-length, hex8-length, dotted-length}
-use Rattle.answer.specs.Lines.{_gives_or_, reasonOf, line, statusLine, cseqLine, sessionLine, publicLine, transportLine, setupLines, playLines, refusedLines}
+use Rattle.answer.specs.Lines.{reasonOf, line, statusLine, cseqLine, sessionLine, publicLine, transportLine, setupLines, playLines, refusedLines}
 use Rattle.answer.specs.Answers.{numbered, optionsLines, linesBy, linesOf, answerWith}
 use Rattle.answer.specs.declared.Kind.{Kind}
 use Rattle.answer.specs.declared.Kind.the-variants.{Bare, Allow, Public, Unsupported, Options, Setup, Play, Teardown}

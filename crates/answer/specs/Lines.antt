@@ -1,19 +1,13 @@
 -- Document 01, "Answer text": its lines. Texts are as they are sent; a line ends in CR LF. Assumes nothing.
 use Prim.Native.Nat.{ℕ, _+_, _%_}
 use Prim.Native.String.{String}
-use mathlib.Core.Bool.{Bool, true, false}
 use mathlib.Core.List.{List, []}
 use lib.Dec.{eqb}
 use Rattle.scan.specs.Text.{text, _&_}
+use Rattle.scan.specs.Lists.{_gives_or_}
 use Rattle.writing.specs.Writing.{decimal, hex8, dotted}
 use Rattle.digits.specs.declared.Read.{Read}
 use Rattle.digits.specs.declared.Read.the-variants.{Value, Nothing}
-
--- what the first of some tests that holds gives
-infixr 50 _gives_or_
-abbrev pub _gives_or_ : {A : Type 0} → Bool → A → A → A
-_gives_or_ true x y = x
-_gives_or_ false x y = y
 
 -- "code, space, reason of 3.5.14"
 unfoldable pub reasonOf : ℕ → String

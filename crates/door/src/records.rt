@@ -1,7 +1,7 @@
 // The journal's records, as C gets them.
 ghost use mathlib.Core.Path.{_≡_};
 ghost use Rattle.journal.specs.Calls.{readAt};
-ghost use Rattle.door.specs.Records.{readFrom, writeReply, numberIn};
+ghost use Rattle.door.specs.Records.{readFrom, writeReply, writtenNumber};
 use journal::Outcome;
 use journal::Reading;
 use journal::Record;
@@ -47,7 +47,7 @@ pub(crate) fn read(bytes: &[u8], place: usize) -> Found
 }
 
 fn number_in(outcome: Outcome) -> u32
-    ensures { λ r. ⌜ r ≡ numberIn outcome ⌝ }
+    ensures { λ r. ⌜ r ≡ writtenNumber outcome ⌝ }
 {
     match outcome {
         Outcome::Done => 0,

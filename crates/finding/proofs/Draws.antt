@@ -10,7 +10,7 @@ use lib.ListN.{length}
 use borrow.Author.Tests.{eqb-true, eqb-false, leb-true, lt-leb, le-leb, eq-eqb, ne-eqb}
 use Rattle.scan.proofs.Bools.{never, Case, case, is, isnt, Same, sames, same, other, or-second, or-neither}
 use Rattle.table.specs.Counts.{bit, count, any}
-use Rattle.table.specs.Table.{noSession, has}
+use Rattle.table.specs.Table.{noSession, hasNumber}
 use Rattle.finding.specs.Finding.{isTaken, nextNumber, drawnFrom, drawn}
 use Rattle.table.specs.declared.Session.{Session}
 use Rattle.table.proofs.Counts.{count-le, count-length}
@@ -39,27 +39,27 @@ toPass l draw n = count (isAhead draw n) (noSession ∷ l)
 distance-next : (d n : ℕ) → d < 4294967296 → n < 4294967296 → distance d n < 4294967295 → distance d (nextNumber n) ≡ distance d n + 1
 distance-next d n hd hn h = omega arith
 
-passed : (l : List Session) (d n : ℕ) → d < 4294967296 → n < 4294967296 → distance d n < 4294967295 → any (has n) l ≡ true → count (isAhead d (nextNumber n)) l < count (isAhead d n) l
-passed l d n hd hn h e = count-lt (isAhead d n) (isAhead d (nextNumber n)) (has n) more here l e
+passed : (l : List Session) (d n : ℕ) → d < 4294967296 → n < 4294967296 → distance d n < 4294967295 → any (hasNumber n) l ≡ true → count (isAhead d (nextNumber n)) l < count (isAhead d n) l
+passed l d n hd hn h e = count-lt (isAhead d n) (isAhead d (nextNumber n)) (hasNumber n) more here l e
   where
     more : (s : Session) → isAhead d (nextNumber n) s ≡ true → isAhead d n s ≡ true
     more s q =
         le-leb (distance d n) (distance d (s .number))
         (omega (arith, leb-true (distance d (nextNumber n)) (distance d (s .number)) q, distance-next d n hd hn h))
 
-    here : (s : Session) → has n s ≡ true → bit (isAhead d (nextNumber n) s) < bit (isAhead d n s)
+    here : (s : Session) → hasNumber n s ≡ true → bit (isAhead d (nextNumber n) s) < bit (isAhead d n s)
     here s q =
         let z : s .number ≡ n = eqb-true _ _ q in
         rw (lt-leb (distance d (nextNumber n)) (distance d (s .number)) (omega (arith, distance-next d n hd hn h)), le-leb (distance d n) (distance d (s .number)) (omega arith))
         (omega arith)
 
 -- 0 is taken as a free place has it
-taken-any : (l : List Session) (n : ℕ) → isTaken l n ≡ true → any (has n) (noSession ∷ l) ≡ true
+taken-any : (l : List Session) (n : ℕ) → isTaken l n ≡ true → any (hasNumber n) (noSession ∷ l) ≡ true
 taken-any l n e = by (sames n 0)
   where
-    by : Same n 0 → any (has n) (noSession ∷ l) ≡ true
+    by : Same n 0 → any (hasNumber n) (noSession ∷ l) ≡ true
     by (same z) = rw z
-    by (other z) = rw (ne-eqb 0 n (λ q. z (sym q))) (or-second (eqb n 0) (any (has n) l) e (ne-eqb n 0 z))
+    by (other z) = rw (ne-eqb 0 n (λ q. z (sym q))) (or-second (eqb n 0) (any (hasNumber n) l) e (ne-eqb n 0 z))
 
 -- the draw has come to n, and there are `more` numbers to look at after it
 pub record Drawing (l : List Session) (draw n more : ℕ) : Type 0 where
@@ -114,10 +114,10 @@ module _ (l : List Session) (n : ℕ) where
   pub taken-zero : n ≡ 0 → isTaken l n ≡ true
   taken-zero e = rw (eq-eqb n 0 e)
 
-  pub taken-open : any (has n) l ≡ true → isTaken l n ≡ true
+  pub taken-open : any (hasNumber n) l ≡ true → isTaken l n ≡ true
   taken-open e = rw e (or-true (eqb n 0))
 
-  pub taken-not : (n ≡ 0 → ⊥) → any (has n) l ≡ false → isTaken l n ≡ false
+  pub taken-not : (n ≡ 0 → ⊥) → any (hasNumber n) l ≡ false → isTaken l n ≡ false
   taken-not z e = rw (ne-eqb n 0 z) e
 
 drawing-free : {l : List Session} {draw : ℕ} (more n : ℕ) → Drawing l draw n more → isTaken l (drawn l draw) ≡ false
@@ -138,7 +138,7 @@ module _ (l : List Session) (draw : ℕ) (long : length l ≡ 32) (h : draw < 42
   drawn-free = drawing-free 33 draw (drawing-start l draw long h)
 
   pub drawn-nonzero : drawn l draw ≡ 0 → ⊥
-  drawn-nonzero = eqb-false (drawn l draw) 0 (or-neither (eqb (drawn l draw) 0) (any (has (drawn l draw)) l) drawn-free .0)
+  drawn-nonzero = eqb-false (drawn l draw) 0 (or-neither (eqb (drawn l draw) 0) (any (hasNumber (drawn l draw)) l) drawn-free .0)
 
-  pub drawn-new : any (has (drawn l draw)) l ≡ false
-  drawn-new = or-neither (eqb (drawn l draw) 0) (any (has (drawn l draw)) l) drawn-free .1
+  pub drawn-new : any (hasNumber (drawn l draw)) l ≡ false
+  drawn-new = or-neither (eqb (drawn l draw) 0) (any (hasNumber (drawn l draw)) l) drawn-free .1

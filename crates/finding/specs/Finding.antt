@@ -6,7 +6,7 @@ use lib.Dec.{eqb}
 use Rattle.scan.specs.Lists.{first}
 use Rattle.stream.specs.declared.Stream.{Stream}
 use Rattle.table.specs.Counts.{any, isAmong}
-use Rattle.table.specs.Table.{has, isFree, isDead}
+use Rattle.table.specs.Table.{hasNumber, isFree, isDead}
 use Rattle.table.specs.Formed.{frontendsOf}
 use Rattle.table.specs.declared.Session.{Session}
 
@@ -16,7 +16,7 @@ lowestPlace l = first isFree l
 
 -- the place of the session that has a number; 32 where none has it
 abbrev pub placeOf : ℕ → List Session → ℕ
-placeOf n l = first (has n) l
+placeOf n l = first (hasNumber n) l
 
 -- "the lowest free ID"; 9 where none is free
 abbrev pub lowestId : List Stream → ℕ
@@ -37,7 +37,7 @@ lowestFrontend frontends ms = lowestAfter frontends 0 ms
 
 -- "the first non-zero number not open": 0 and the open numbers are taken
 abbrev pub isTaken : List Session → ℕ → Bool
-isTaken l n = eqb n 0 || any (has n) l
+isTaken l n = eqb n 0 || any (hasNumber n) l
 
 -- "counting up"; "after 4294967295 comes 0"
 abbrev pub nextNumber : ℕ → ℕ

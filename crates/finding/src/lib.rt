@@ -3,14 +3,14 @@ ghost use mathlib.Core.Path.{_≡_};
 ghost use Prim.Native.Nat.{_≤_};
 ghost use Rattle.scan.specs.Found.{FirstOf};
 ghost use Rattle.table.specs.Formed.{frontendsOf};
-ghost use Rattle.table.specs.Table.{has, isFree, isDead, opens, owns};
+ghost use Rattle.table.specs.Table.{hasNumber, isFree, isDead, openCount, owns};
 ghost use Rattle.finding.specs.Finding.{lowestId, isHeld, lowestFrontend, drawn};
 use table::SatBox;
 use table::Session;
 
 // The place of the session that has the number; 32 where none has it.
 pub fn place_of(t: SatBox, n: u32) -> usize
-    ensures { λ r. ⌜ FirstOf (has n) (t .sessions) r ⌝ }
+    ensures { λ r. ⌜ FirstOf (hasNumber n) (t .sessions) r ⌝ }
 {
     let mut place = 0;
     while place < SatBox::SESSIONS {
@@ -116,7 +116,7 @@ pub fn draw(t: SatBox, draw: u32) -> u32
 
 // How many sessions are open.
 pub fn count_open(t: SatBox) -> u32
-    ensures { λ r. ⌜ (r ≡ opens t) × (r ≤ 32) ⌝ }
+    ensures { λ r. ⌜ (r ≡ openCount t) × (r ≤ 32) ⌝ }
 {
     let mut n = 0;
     let mut i = 0;

@@ -18,7 +18,7 @@ use Rattle.scan.proofs.Bools.{never, and-both, and-and, Case, is, isnt, case, S
 use Rattle.stream.specs.Streams.{pastStream, isSound}
 use Rattle.stream.specs.declared.Stream.{Stream}
 use Rattle.table.specs.Counts.{bit, count, isAmong, areDistinct}
-use Rattle.table.specs.Table.{noSession, has, isOpen, opens, sessionAt, streamOf, isDead, owns}
+use Rattle.table.specs.Table.{noSession, hasNumber, isOpen, openCount, sessionAt, streamOf, isDead, owns}
 use Rattle.table.specs.Formed.{areSizes, numbersOf, isHoused, areOwned, isSeated, isProper, wellFormed}
 use Rattle.table.specs.declared.Session.{Session}
 use Rattle.table.specs.declared.SatBox.{SatBox}
@@ -98,7 +98,7 @@ pub record Walking (t : SatBox) (i : ℕ) (numbers owners : List ℕ) (n : ℕ) 
   pub housed : Passing (isHoused t) (t .sessions) i
   pub opened : Counting isOpen (t .sessions) i n
   pub owned : (id : ℕ) → id < 9 → Counting (owns id) (t .sessions) i (getD owners id 0)
-  pub having : (m : ℕ) → (m ≡ 0 → ⊥) → Counting (has m) (t .sessions) i (count (is-number m) (take n numbers))
+  pub having : (m : ℕ) → (m ≡ 0 → ⊥) → Counting (hasNumber m) (t .sessions) i (count (is-number m) (take n numbers))
   pub once : (m : ℕ) → (m ≡ 0 → ⊥) → count (is-number m) (take n numbers) ≤ 1
 
 pub walking-start : (t : SatBox) → length (t .sessions) ≡ 32 → length (t .streams) ≡ 8 → Walking t 0 (replicate 32 0) (replicate 9 0) 0
@@ -113,7 +113,7 @@ walking-start t l m =
       housed = passing-start (isHoused t) (t .sessions);
       opened = counting-start isOpen (t .sessions);
       owned = λ id h. subst (Counting (owns id) (t .sessions) 0) (sym (getD-replicate 9 id 0 0 h)) (counting-start (owns id) (t .sessions));
-      having = λ m h. counting-start (has m) (t .sessions);
+      having = λ m h. counting-start (hasNumber m) (t .sessions);
       once = λ m h. omega arith;
     }
 
@@ -129,7 +129,7 @@ module _ {t : SatBox} {i n : ℕ} {numbers owners : List ℕ} (w : Walking t i n
     -- a free place
     pub walking-free : sessionAt t i .number ≡ 0 → Walking t (i + 1) numbers owners n
     walking-free z =
-        let f : has 0 (sessionAt t i) ≡ true = eq-eqb (sessionAt t i .number) 0 z in
+        let f : hasNumber 0 (sessionAt t i) ≡ true = eq-eqb (sessionAt t i .number) 0 z in
         record {
           places = w .places;
           rows = w .rows;
@@ -140,7 +140,7 @@ module _ {t : SatBox} {i n : ℕ} {numbers owners : List ℕ} (w : Walking t i n
           housed = passing-more (isHoused t) noSession (w .housed) within refl (rw f);
           opened = counting-by isOpen noSession (w .opened) within (rw f (omega arith));
           owned = λ id k. counting-by (owns id) noSession (w .owned id k) within (rw f (omega arith));
-          having = λ m k. counting-by (has m) noSession (w .having m k) within (rw (ne-eqb (sessionAt t i .number) m (λ q. k (sym q ∙ z))) (omega arith));
+          having = λ m k. counting-by (hasNumber m) noSession (w .having m k) within (rw (ne-eqb (sessionAt t i .number) m (λ q. k (sym q ∙ z))) (omega arith));
           once = w .once;
         }
 
@@ -164,7 +164,7 @@ module _ {t : SatBox} {i n : ℕ} {numbers owners : List ℕ} (w : Walking t i n
           twice z f =
               let v = sessionAt t i .number in
               let c = w .having v k .same in
-              let b : count (has v) (drop i (t .sessions)) ≡ 1 + count (has v) (drop (i + 1) (t .sessions)) = turn (count (has v)) (t .sessions) i noSession within ∙ rw (eq-eqb v v refl) in
+              let b : count (hasNumber v) (drop i (t .sessions)) ≡ 1 + count (hasNumber v) (drop (i + 1) (t .sessions)) = turn (count (hasNumber v)) (t .sessions) i noSession within ∙ rw (eq-eqb v v refl) in
               never (sym among ∙ z) (none-count (is-number v) (take n numbers) (omega (arith, f .seats .numbers v k)))
 
           -- its stream is dead, or its number came before
@@ -179,7 +179,7 @@ module _ {t : SatBox} {i n : ℕ} {numbers owners : List ℕ} (w : Walking t i n
           walking-more z =
               let v = sessionAt t i .number in
               let o = or-neither (isDead (getD (t .streams) (sessionAt t i .stream - 1) pastStream)) a z in
-              let f : has 0 (sessionAt t i) ≡ false = ne-eqb v 0 k in
+              let f : hasNumber 0 (sessionAt t i) ≡ false = ne-eqb v 0 k in
               let new : count (is-number v) (take n numbers) ≡ 0 = count-none (is-number v) (take n numbers) (sym among ∙ o .1) in
               record {
                 places = w .places;
@@ -191,7 +191,7 @@ module _ {t : SatBox} {i n : ℕ} {numbers owners : List ℕ} (w : Walking t i n
                 housed = passing-more (isHoused t) noSession (w .housed) within refl (rw (f, here, o .0));
                 opened = counting-by isOpen noSession (w .opened) within (rw f);
                 owned = λ id l. counting-by (owns id) noSession (w .owned id l) within (tally id l (sames id (sessionAt t i .stream)));
-                having = λ m l. counting-by (has m) noSession (w .having m l) within (packed m);
+                having = λ m l. counting-by (hasNumber m) noSession (w .having m l) within (packed m);
                 once = λ m l. omega (arith, packed m, first m (w .once m l) new (case (eqb v m)));
               }
             where
@@ -220,7 +220,7 @@ pub record Walked (t : SatBox) (owners : List ℕ) (n : ℕ) : Type 0 where
   pub housed : all (isHoused t) (t .sessions) ≡ true
   pub proper : all (isProper (t .clock)) (t .sessions) ≡ true
   pub owned : (id : ℕ) → id < 9 → getD owners id 0 ≡ count (owns id) (t .sessions)
-  pub opened : n ≡ opens t
+  pub opened : n ≡ openCount t
 
 walked : {t : SatBox} {i n : ℕ} {numbers owners : List ℕ} → Walking t i numbers owners n → 32 ≤ i → Walked t owners n
 walked {t} {i} w h =
@@ -231,7 +231,7 @@ walked {t} {i} w h =
       most = omega (arith, w .most, w .places, w .opened .inside);
       distinct =
           count-distinct (numbersOf (t .sessions))
-          (λ m z. rw (count-map (is-number m) (λ s. s .number) (t .sessions)) (omega (arith, counting-end (has m) (w .having m z) p, w .once m z)));
+          (λ m z. rw (count-map (is-number m) (λ s. s .number) (t .sessions)) (omega (arith, counting-end (hasNumber m) (w .having m z) p, w .once m z)));
       housed = sym (passing-end (isHoused t) (w .housed) p);
       proper = sym (passing-end (isProper (t .clock)) (w .proper) p);
       owned = λ id k. counting-end (owns id) (w .owned id k) p;

@@ -7,13 +7,13 @@ ghost use lib.Dec.{eqb, leb};
 ghost use Rattle.scan.specs.Classes.{isBetween};
 ghost use Rattle.stream.specs.Streams.{isSound};
 ghost use Rattle.table.specs.Table.{isDead};
-ghost use Rattle.table.specs.Formed.{isSeated, isEmpty, isProper, wellFormed};
+ghost use Rattle.table.specs.Formed.{isSeated, isBlank, isProper, wellFormed};
 use stream::Stream;
 use table::SatBox;
 use table::Session;
 
 fn is_empty(s: Session) -> bool
-    ensures { λ r. ⌜ r ≡ isEmpty s ⌝ }
+    ensures { λ r. ⌜ r ≡ isBlank s ⌝ }
 {
     (s.address == 0)
         & (s.last == 0)

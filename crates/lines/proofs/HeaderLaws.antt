@@ -18,7 +18,7 @@ use Rattle.scan.specs.declared.Span.{Span}
 use Rattle.scan.proofs.Bools.{never}
 use Rattle.scan.proofs.Parts.{part-rest, holds-inside, named-by}
 use Rattle.lines.specs.Headers.{isHeader, known}
-use Rattle.lines.specs.Laid.{colon, noHeader, HeaderIs}
+use Rattle.lines.specs.Laid.{headerColon, noHeader, HeaderIs}
 use Rattle.lines.specs.declared.Header.{Header}
 
 module _ (line : List ℕ) {k : ℕ} (f : FirstOf (is 58) line k) where
@@ -42,14 +42,14 @@ module _ (line : List ℕ) {k : ℕ} (f : FirstOf (is 58) line k) where
         → HeaderIs line (record { kind = n; start = k + 1 + v .start; end = k + 1 + v .end })
     header-whole z h y {n} q v w =
         let whole : isHeader line ≡ true = tests ∙ rw (lt-ltb 0 k (omega arith), lt-ltb k (length line) h, sym a ∙ y) in
-        let rest : part (k + 1) (length line) line ≡ drop (colon line + 1) line =
+        let rest : part (k + 1) (length line) line ≡ drop (headerColon line + 1) line =
         part-rest (k + 1) (length line) line (omega arith) ∙ ap (λ j. drop (j + 1) line) (f .is)
         in
         let held = holds-inside (k + 1) (length line) line refl (omega arith) (omega arith) (w .holds) in
         record {
           kind = rw whole (q ∙ ap (λ j. placeAmong Ignored known (part 0 j line)) (f .is));
           value = λ _. rw (ap trim rest) at held;
-          starts = λ _. ap (λ j. k + 1 + j) (w .starts ∙ ap leading rest) ∙ ap (λ j. j + 1 + leading (drop (colon line + 1) line)) (f .is);
+          starts = λ _. ap (λ j. k + 1 + j) (w .starts ∙ ap leading rest) ∙ ap (λ j. j + 1 + leading (drop (headerColon line + 1) line)) (f .is);
           order = held .order;
           within = held .within;
         }

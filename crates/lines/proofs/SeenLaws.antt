@@ -21,7 +21,7 @@ use Rattle.scan.proofs.Bools.{never, by-test, by-cases, cond-keeps}
 use Rattle.scan.proofs.Loops.{first-within}
 use Rattle.scan.proofs.Parts.{part-length, part-empty, all-same, some-part, holds-nothing, holds-inside}
 use Rattle.lines.specs.Headers.{known, isHeader, headerOf, valuesOf}
-use Rattle.lines.specs.Laid.{nameOf, valueOf, valueAt, firstStart, HeaderIs, SeenIs, unseen, seenAgain, isPairAt, brokenLines, HeadersAre, LinesAre, areHeaders, areAll, untilEmpty}
+use Rattle.lines.specs.Laid.{nameOf, headerValue, valueAt, firstStart, HeaderIs, SeenIs, unseen, seenAgain, isPairAt, brokenLines, HeadersAre, LinesAre, areHeaders, areAll, untilEmpty}
 use Rattle.lines.specs.Lines.{lines, isLaidOut, requestLine, headerLines}
 use Rattle.lines.specs.declared.Seen.{Seen}
 use Rattle.lines.specs.declared.Header.{Header}
@@ -139,7 +139,7 @@ module _ {s : List ℕ} {ls : List (List ℕ)} {from p e : ℕ} {hs : List Seen}
       noting-more w =
           let head : isHeader (part p e s) ≡ true = is-header (part p e s) h w in
           let kind : r .kind ≡ headerOf (part p e s) = h .kind ∙ rw head in
-          let value : Holds s (valueOf (part p e s)) (p + r .start) (p + r .end) =
+          let value : Holds s (headerValue (part p e s)) (p + r .start) (p + r .end) =
           holds-inside p e s refl (omega (arith, more)) (omega (arith, line-fits s f q y)) (h .value head)
           in
           record {
@@ -179,22 +179,22 @@ module _ {s : List ℕ} {ls : List (List ℕ)} {from p e : ℕ} {hs : List Seen}
               (λ t. never t (seen-some (getD hs k unseen) (p + r .start) (p + r .end))))
               (λ j. rw (getD-set-other hs (r .kind) k again unseen (λ x. j (sym x))) (n .unbegun k))
 
-          rest : (k : ℕ) → valuesOf k (untilEmpty (lines (drop p s))) ≡ cond (eqb (headerOf (part p e s)) k) (valueOf (part p e s) ∷ valuesOf k (untilEmpty (lines (drop (e + 2) s)))) (valuesOf k (untilEmpty (lines (drop (e + 2) s))))
+          rest : (k : ℕ) → valuesOf k (untilEmpty (lines (drop p s))) ≡ cond (eqb (headerOf (part p e s)) k) (headerValue (part p e s) ∷ valuesOf k (untilEmpty (lines (drop (e + 2) s)))) (valuesOf k (untilEmpty (lines (drop (e + 2) s))))
           rest k = ap (λ l. valuesOf k (untilEmpty l)) (line-turn s f q y) ∙ rw some
 
           sent-more : (k : ℕ) → Sent s (valuesOf k (untilEmpty ls)) (valuesOf k (untilEmpty (lines (drop p s)))) (getD hs k unseen)
-              → valuesOf k (untilEmpty (lines (drop p s))) ≡ cond (eqb (headerOf (part p e s)) k) (valueOf (part p e s) ∷ valuesOf k (untilEmpty (lines (drop (e + 2) s)))) (valuesOf k (untilEmpty (lines (drop (e + 2) s))))
-              → r .kind ≡ headerOf (part p e s) → Holds s (valueOf (part p e s)) (p + r .start) (p + r .end)
+              → valuesOf k (untilEmpty (lines (drop p s))) ≡ cond (eqb (headerOf (part p e s)) k) (headerValue (part p e s) ∷ valuesOf k (untilEmpty (lines (drop (e + 2) s)))) (valuesOf k (untilEmpty (lines (drop (e + 2) s))))
+              → r .kind ≡ headerOf (part p e s) → Holds s (headerValue (part p e s)) (p + r .start) (p + r .end)
               → Sent s (valuesOf k (untilEmpty ls)) (valuesOf k (untilEmpty (lines (drop (e + 2) s)))) (getD (set hs (r .kind) (seenAgain (getD hs (r .kind) unseen) (p + r .start) (p + r .end))) k unseen)
           sent-more k m c i v =
               by-cases (ℕ-discrete (r .kind) k)
               (λ j.
-              let here : valuesOf k (untilEmpty (lines (drop p s))) ≡ valueOf (part p e s) ∷ valuesOf k (untilEmpty (lines (drop (e + 2) s))) = c ∙ rw (eq-eqb (headerOf (part p e s)) k (sym i ∙ j)) in
+              let here : valuesOf k (untilEmpty (lines (drop p s))) ≡ headerValue (part p e s) ∷ valuesOf k (untilEmpty (lines (drop (e + 2) s))) = c ∙ rw (eq-eqb (headerOf (part p e s)) k (sym i ∙ j)) in
               let l : k < length hs = omega (arith, n .six) in
               rw (j, getD-set-same hs k (seenAgain (getD hs k unseen) (p + r .start) (p + r .end)) unseen l)
               (record {
-                done = m .done ++ (valueOf (part p e s) ∷ []);
-                split = m .split ∙ ap (λ x. m .done ++ x) here ∙ sym (append-assoc (m .done) (valueOf (part p e s) ∷ []) (valuesOf k (untilEmpty (lines (drop (e + 2) s)))));
+                done = m .done ++ (headerValue (part p e s) ∷ []);
+                split = m .split ∙ ap (λ x. m .done ++ x) here ∙ sym (append-assoc (m .done) (headerValue (part p e s) ∷ []) (valuesOf k (untilEmpty (lines (drop (e + 2) s)))));
                 is = seen-again (m .done) (m .is) v;
               }))
               (λ j.

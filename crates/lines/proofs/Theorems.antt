@@ -13,12 +13,12 @@ use Rattle.scan.specs.Trim.{isEmpty}
 use Rattle.scan.specs.declared.Case.the-variants.{Ignored}
 use Rattle.scan.proofs.Places.{place-by}
 use Rattle.lines.specs.Headers.{known, isHeader, headerOf, valuesOf}
-use Rattle.lines.specs.Laid.{nameOf, valueOf, areHeaders}
+use Rattle.lines.specs.Laid.{nameOf, headerValue, areHeaders}
 
 -- header lines whose names differ in case alone
 pub data Recased : List (List ℕ) → List (List ℕ) → Type 0 where
   same : Recased [] []
-  next : {h g : List ℕ} {hs gs : List (List ℕ)} → map small (nameOf h) ≡ map small (nameOf g) → valueOf h ≡ valueOf g → Recased hs gs → Recased (h ∷ hs) (g ∷ gs)
+  next : {h g : List ℕ} {hs gs : List (List ℕ)} → map small (nameOf h) ≡ map small (nameOf g) → headerValue h ≡ headerValue g → Recased hs gs → Recased (h ∷ hs) (g ∷ gs)
 
 recased-kind : (h g : List ℕ) → map small (nameOf h) ≡ map small (nameOf g) → headerOf h ≡ headerOf g
 recased-kind h g e = place-by Ignored known (nameOf h) (nameOf g) e

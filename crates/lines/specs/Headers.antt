@@ -6,14 +6,14 @@ use mathlib.Core.List.{List, [], _∷_}
 use lib.Dec.{eqb}
 use lib.ListN.{getD}
 use Rattle.scan.specs.Text.{text}
-use Rattle.scan.specs.Classes.{isNamed}
+use Rattle.scan.specs.Classes.{areNameBytes}
 use Rattle.scan.specs.Trim.{trim}
 use Rattle.scan.specs.Cut.{before, after, has}
 use Rattle.scan.specs.Words.{placeAmong}
 use Rattle.scan.specs.declared.Case.the-variants.{Ignored}
 
 abbrev pub isHeader : List ℕ → Bool
-isHeader line = has 58 line && isNamed (before 58 line)
+isHeader line = has 58 line && areNameBytes (before 58 line)
 
 -- a header by its place among the known ones, 5 for any other
 abbrev pub known : List ℕ

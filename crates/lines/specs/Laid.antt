@@ -16,18 +16,18 @@ use Rattle.scan.specs.Lists.{first, all}
 use Rattle.scan.specs.Cut.{is, before, after}
 use Rattle.scan.specs.Trim.{trim, isEmpty}
 
-abbrev pub colon : List ℕ → ℕ
-colon line = first (is 58) line
+abbrev pub headerColon : List ℕ → ℕ
+headerColon line = first (is 58) line
 
 abbrev pub nameOf : List ℕ → List ℕ
 nameOf line = before 58 line
 
-abbrev pub valueOf : List ℕ → List ℕ
-valueOf line = trim (after 58 line)
+abbrev pub headerValue : List ℕ → List ℕ
+headerValue line = trim (after 58 line)
 
 -- where a header's value starts in its line
 abbrev pub valueAt : List ℕ → ℕ
-valueAt line = colon line + 1 + leading (drop (colon line + 1) line)
+valueAt line = headerColon line + 1 + leading (drop (headerColon line + 1) line)
 
 -- where the first value of a kind starts, of header lines from place `at` on, with CR LF between two: 0 where there is none
 abbrev pub firstStart : ℕ → ℕ → List (List ℕ) → ℕ
@@ -36,7 +36,7 @@ firstStart k at hs = placeIn (λ h. eqb (headerOf h) k) valueAt 2 at hs
 -- one line: its kind, 6 where it is no header, and where its value stands
 pub record HeaderIs (line : List ℕ) (r : Header) : Type 0 where
   pub kind : r .kind ≡ cond (isHeader line) (headerOf line) 6
-  pub value : isHeader line ≡ true → Holds line (valueOf line) (r .start) (r .end)
+  pub value : isHeader line ≡ true → Holds line (headerValue line) (r .start) (r .end)
   pub starts : isHeader line ≡ true → r .start ≡ valueAt line
   pub order : r .start ≤ r .end
   pub within : r .end ≤ length line

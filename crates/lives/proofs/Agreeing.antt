@@ -8,21 +8,21 @@ use Rattle.scan.proofs.Bools.{Same, same, other, sames}
 use Rattle.journal.specs.declared.Record.{Record}
 use Rattle.stream.specs.declared.Stream.{Stream}
 use Rattle.table.specs.Counts.{any, count}
-use Rattle.table.specs.Table.{noSession, has, sessionAt, streamOf, isOn}
+use Rattle.table.specs.Table.{noSession, hasNumber, sessionAt, streamOf, isOn}
 use Rattle.table.specs.declared.Session.{Session}
 use Rattle.table.specs.declared.SatBox.{SatBox}
 use Rattle.closings.specs.Did.{restreamed, reseated, noting, recordOf}
 use Rattle.closings.specs.Does.{Closable}
 use Rattle.closings.specs.Closing.{closeOne, atClock}
 use Rattle.satbox.specs.Calls.{emptied}
-use Rattle.serving.specs.Serving.{replaced}
+use Rattle.serving.specs.Serving.{withSession}
 use Rattle.promises.proofs.Serving.{Alike}
 use Rattle.lives.specs.Audit.{unheld, notedBy, audited, holds, Agree}
 use Rattle.lives.proofs.Keepers.{audited-more, noted-none, noted-others, closed-keeps, closed-kept, closed-kept-others, freed-keeps, fed-keeps, alike-keeps, isHolder, keeps}
 
 -- no two open sessions have one number
 abbrev pub Single : SatBox → Type 0
-Single t = (n : ℕ) → (n ≡ 0 → ⊥) → count (has n) (t .sessions) ≤ 1
+Single t = (n : ℕ) → (n ≡ 0 → ⊥) → count (hasNumber n) (t .sessions) ≤ 1
 
 -- with one record more: what it says of f and n
 pub agree-noted : (h : List Record) (t : SatBox) (r : Record) → ((f n : ℕ) → (f ≡ 0 → ⊥) → holds t f n ≡ isHolder n (notedBy f r (audited f h))) → Agree (h ++ (r ∷ [])) t
@@ -63,8 +63,8 @@ module _ {h : List Record} (t : SatBox) (g : Agree h t) where
   unfolding restreamed
   agree-fed id m e = record { same = λ f n z. fed-keeps (t .streams) id m e (t .sessions) f n ∙ g .same f n z }
 
-  pub agree-replaced : (i : ℕ) (new : Session) → Alike new (sessionAt t i) → Agree h (replaced i new t)
-  unfolding replaced
+  pub agree-replaced : (i : ℕ) (new : Session) → Alike new (sessionAt t i) → Agree h (withSession i new t)
+  unfolding withSession
   agree-replaced i new k = record { same = λ f n z. alike-keeps (t .streams) (t .sessions) i new k f n ∙ g .same f n z }
 
   pub agree-clock : (clock : ℕ) → Agree h (atClock clock t)

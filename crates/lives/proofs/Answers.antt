@@ -12,7 +12,7 @@ use Rattle.journal.specs.declared.Record.{Record}
 use Rattle.stream.specs.Streams.{pastStream}
 use Rattle.stream.specs.declared.Stream.{Stream}
 use Rattle.table.specs.Counts.{any, count}
-use Rattle.table.specs.Table.{noSession, has, isOpen, streamIn, isOn, owns}
+use Rattle.table.specs.Table.{noSession, hasNumber, isOpen, streamIn, isOn, owns}
 use Rattle.finding.specs.Finding.{isHeld}
 use Rattle.table.specs.declared.Session.{Session}
 use Rattle.table.specs.declared.SatBox.{SatBox}
@@ -75,7 +75,7 @@ module _ (h : List Record) (t : SatBox) (w : Whole t) (g : Agree h t) (f : ℕ) 
       let y : holds t f n ≡ true = g .same f n z ∙ (ap (isHolder n) e ∙ eq-eqb n n refl) in
       let p = keeps (t .streams) f n in
       let s = getD (t .sessions) (first p (t .sessions)) noSession in
-      let k = and-both (has n s) _ (and-both (owns (s .stream) s) _ (any-first p (t .sessions) noSession y) .1) in
+      let k = and-both (hasNumber n s) _ (and-both (owns (s .stream) s) _ (any-first p (t .sessions) noSession y) .1) in
       fed-held f (t .streams) (s .stream) z (eqb-true _ _ (k .1))
 
   pub held-agrees : isHeld f (t .streams) ≡ isHeldBy (λ n. true) (audited f h)

@@ -16,7 +16,7 @@ use Rattle.closings.specs.Did.{Did}
 use Rattle.closings.specs.Closing.{sweeping}
 use Rattle.satbox.specs.Calls.{ifDone, tickOutcome, collectOutcome, ticked, emptied, collected}
 use Rattle.satbox.specs.Requests.{requestOutcome, requested, replied}
-use Rattle.lives.specs.Calls.{lent, Call, request, tick, collect, order, isShort, isCall, Life, live, run, Lives, after}
+use Rattle.lives.specs.Calls.{lent, Call, request, tick, collect, order, isShort, isCall, Life, live, run, Lives, lifeAfter}
 use Rattle.lives.specs.Audit.{Agree, empty, Leads, begun, quiet}
 use Rattle.lives.proofs.Holding.{Good, born-good}
 use Rattle.lives.proofs.Running.{live-good}
@@ -56,6 +56,6 @@ run-leads {settings = settings} (c ∷ cs) {x} e g a =
     let first = live-leads g a c (p .0) in
     leads-then first (run-leads cs (p .1) (live-good g c (p .0)) (leads-agree first))
 
-pub after-leads : {settings : Settings} {j : List ℕ} {cs : List Call} → Lives settings j cs → Leads [] (fresh settings) (after settings j cs .history) (after settings j cs .satbox)
+pub after-leads : {settings : Settings} {j : List ℕ} {cs : List Call} → Lives settings j cs → Leads [] (fresh settings) (lifeAfter settings j cs .history) (lifeAfter settings j cs .satbox)
 after-leads {settings} {j} {cs} h =
     run-leads cs (h .calls) (born-good settings j (h .sizes) (h .journal)) (born-agree settings)

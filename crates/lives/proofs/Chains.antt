@@ -9,7 +9,7 @@ use Rattle.scan.proofs.Bools.{cond-keeps}
 use Rattle.journal.specs.declared.Record.{Record}
 use Rattle.stream.specs.Streams.{noStream}
 use Rattle.table.specs.Counts.{count}
-use Rattle.table.specs.Table.{noSession, has, sessionAt, isOn}
+use Rattle.table.specs.Table.{noSession, hasNumber, sessionAt, isOn}
 use Rattle.table.specs.declared.SatBox.{SatBox}
 use Rattle.table.proofs.Counts.{bit-no, count-set-le}
 use Rattle.closings.specs.Did.{Did, nothing, then, reseated, noting}
@@ -65,7 +65,7 @@ unfolding closeOne noting reseated
 one-steady cause i t c one =
     record {
       roomy = closeOne-fine t i c cause .roomy;
-      single = λ n z. omega (arith, count-set-le (has n) (t .sessions) i noSession, bit-no (ne-eqb 0 n (λ q. z (sym q))), one n z);
+      single = λ n z. omega (arith, count-set-le (hasNumber n) (t .sessions) i noSession, bit-no (ne-eqb 0 n (λ q. z (sym q))), one n z);
     }
 
 closeOn-steady : (id i : ℕ) (t : SatBox) → i < 32 → Steady t → Steady (closeOn id i t .satbox)

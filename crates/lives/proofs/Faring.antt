@@ -23,7 +23,7 @@ use Rattle.reader.specs.declared.fields.Session.the-variants.{Absent, Malformed
 use Rattle.journal.specs.declared.Record.{Record}
 use Rattle.stream.specs.declared.Stream.{Stream}
 use Rattle.table.specs.Counts.{any}
-use Rattle.table.specs.Table.{noSession, has, isFree, isOpen, sessionAt, streamOf}
+use Rattle.table.specs.Table.{noSession, hasNumber, isFree, isOpen, sessionAt, streamOf}
 use Rattle.finding.specs.Finding.{lowestPlace}
 use Rattle.table.specs.declared.Session.{Session}
 use Rattle.table.specs.declared.Settings.{Settings}
@@ -33,7 +33,7 @@ use Rattle.table.specs.declared.Outcome.the-variants.{Done, Refused}
 use Rattle.table.proofs.Counts.{first-passes}
 use Rattle.table.proofs.Changes.{opened}
 use Rattle.steps.specs.Asked.{askedOf}
-use Rattle.steps.specs.Sights.{numberOf, placeNamed}
+use Rattle.steps.specs.Sights.{sessionNumber, placeNamed}
 use Rattle.steps.specs.Cases.{isPassed}
 use Rattle.closings.specs.Did.{Did}
 use Rattle.closings.specs.Closing.{sweeping, atClock}
@@ -64,14 +64,14 @@ closing-closes clock frontend n s a r z =
     subst (λ m. isClosingOf m r ≡ true) a (and-both (isClosingOf (s .number) r) _ z .0)
 
 -- the session that a header names has its number
-named-number : (t : SatBox) → length (t .sessions) ≡ 32 → (sent : Sent) → placeNamed sent t < 32 → sessionAt t (placeNamed sent t) .number ≡ numberOf sent
+named-number : (t : SatBox) → length (t .sessions) ≡ 32 → (sent : Sent) → placeNamed sent t < 32 → sessionAt t (placeNamed sent t) .number ≡ sessionNumber sent
 named-number t n Absent l = absurd (omega arith)
 named-number t n Malformed l = absurd (omega arith)
 named-number t n (Named m) l = by (sames m 0) l
   where
     by : Same m 0 → placeNamed (Named m) t < 32 → sessionAt t (placeNamed (Named m) t) .number ≡ m
     by (same e) l = let z = rw (eq-eqb m 0 e) at l in absurd (omega arith)
-    by (other e) l = rw (ne-eqb m 0 e) (eqb-true _ _ (first-passes (has m) (t .sessions) noSession (let z = rw (ne-eqb m 0 e) at l in omega arith)))
+    by (other e) l = rw (ne-eqb m 0 e) (eqb-true _ _ (first-passes (hasNumber m) (t .sessions) noSession (let z = rw (ne-eqb m 0 e) at l in omega arith)))
 
 -- the clock never falls
 done-later : (o : Outcome) {c : ℕ} (t u : SatBox) → c ≤ t .clock → c ≤ u .clock → c ≤ ifDone o u t .clock
@@ -178,7 +178,7 @@ module _ (n i : ℕ) (some : n ≡ 0 → ⊥) (P : ℕ → Type 0) where
     swept-fares clock = fate-fares (swept-fates (atClock clock t) (clock-whole clock t w) .each i) refl a p
 
     requested-fares : (s : List ℕ) (clock address draw : ℕ)
-        → (methodOf s ≡ Options → numberOf (sessionOf (valuesOf 1 (headerLines s))) ≡ n → P (max (t .clock) clock))
+        → (methodOf s ≡ Options → sessionNumber (sessionOf (valuesOf 1 (headerLines s))) ≡ n → P (max (t .clock) clock))
         → Fares n i P (requested s clock address draw t .did .satbox) (requested s clock address draw t .did .records)
     unfolding requested
     requested-fares s clock address draw kept =

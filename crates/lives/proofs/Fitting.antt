@@ -17,8 +17,8 @@ use Rattle.table.proofs.Counts.{getD-set-all}
 use Rattle.closings.specs.Did.{Did, nothing, then, restreamed, reseated, noting}
 use Rattle.closings.specs.Does.{Closable}
 use Rattle.closings.specs.Closing.{closeOne, free, closing, sweeping, atClock}
-use Rattle.serving.specs.Opening.{guest, seating as seated, canJoin, joining, canOpen, opening}
-use Rattle.serving.specs.Serving.{replaced, answered}
+use Rattle.serving.specs.Opening.{guest, seatingAs as seated, canJoin, joining, canOpen, opening}
+use Rattle.serving.specs.Serving.{withSession, answered}
 use Rattle.satbox.specs.Requests.{requested}
 use Rattle.serving.specs.declared.opening.Client.{Client}
 use Rattle.closings.proofs.Keeping.{Whole, whole-roomy, clock-whole}
@@ -112,8 +112,8 @@ opening-fitting m client t short =
     (λ e. fitting-nothing t)
 
 -- A SESSION CHANGED in its place keeps its number
-changed-fitting : {t u : SatBox} (place : ℕ) (s : Session) → s .number ≡ sessionAt t place .number → Retuned t u → Fitting t (nothing (replaced place s u))
-unfolding replaced
+changed-fitting : {t u : SatBox} (place : ℕ) (s : Session) → s .number ≡ sessionAt t place .number → Retuned t u → Fitting t (nothing (withSession place s u))
+unfolding withSession
 changed-fitting {t} place s e r h =
     let same = retuned-same r in
     record {

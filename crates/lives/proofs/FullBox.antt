@@ -9,7 +9,7 @@ use borrow.Author.Tests.{eq-eqb}
 use Rattle.refusals.specs.declared.Refusal.the-variants as refusal
 use Rattle.reader.specs.Request.{requestRefusal}
 use Rattle.journal.specs.Bytes.{recordSize}
-use Rattle.table.specs.Table.{opens}
+use Rattle.table.specs.Table.{openCount}
 use Rattle.table.specs.Made.{settingsOf}
 use Rattle.table.specs.declared.SatBox.{SatBox}
 use Rattle.steps.specs.Asked.{askedOf, listsOf}
@@ -21,7 +21,7 @@ use Rattle.satbox.specs.Requests.{requested, replied}
 use Rattle.closings.proofs.Keeping.{whole-formed}
 use Rattle.promises.proofs.Asks.{example, box, home, after as asked}
 use Rattle.promises.proofs.Edges.{meanings, rounds}
-use Rattle.lives.specs.Calls.{own, Call, request, Life, live, run, Lives, after}
+use Rattle.lives.specs.Calls.{own, Call, request, Life, live, run, Lives, lifeAfter}
 use Rattle.lives.specs.Closed.{PassesElse}
 use Rattle.lives.proofs.Holding.{Good, sized, born-good}
 use Rattle.lives.proofs.Running.{live-good}
@@ -39,7 +39,7 @@ abbrev pub journal : List ℕ
 journal = replicate 1024 0
 
 abbrev pub life : ℕ → Life
-life n = after (settingsOf 2 1024) journal (calls n)
+life n = lifeAfter (settingsOf 2 1024) journal (calls n)
 
 -- the box then, after expired sessions are closed
 abbrev pub swept : ℕ → SatBox
@@ -51,7 +51,7 @@ pub record Meets (n room : ℕ) (case : Case) (status : ℕ) : Type 0 where
   pub lives : Lives (settingsOf 2 1024) journal (calls n)
   pub read : requestRefusal 2 example ≡ refusal.Passed
   pub else : PassesElse (swept n) (askedOf 2 example) (listsOf example)
-  pub needed : swept n .held + recordSize * opens (swept n) + 2 * recordSize ≡ room
+  pub needed : swept n .held + recordSize * openCount (swept n) + 2 * recordSize ≡ room
   pub is : requested example 0 home 1 (life n .satbox) .case ≡ case
   pub answered : statusOf case ≡ status
 
@@ -91,8 +91,8 @@ module _ (n : ℕ) (lives : Lives (settingsOf 2 1024) journal (calls n)) (leads 
   passes-else : PassesElse (swept n) (askedOf 2 example) (listsOf example)
   passes-else = subst (λ t. PassesElse t (askedOf 2 example) (listsOf example)) (sym swept-idle) else
 
-  needs : swept n .held + recordSize * opens (swept n) + 2 * recordSize ≡ 32 * n + 32
-  needs = ap (λ t. t .held + 16 * opens t + 32) swept-idle ∙ omega arith
+  needs : swept n .held + recordSize * openCount (swept n) + 2 * recordSize ≡ 32 * n + 32
+  needs = ap (λ t. t .held + 16 * openCount t + 32) swept-idle ∙ omega arith
 
   meets : (case : Case) → requested example 0 home 1 (life n .satbox) .case ≡ case → Meets n (32 * n + 32) case (statusOf case)
   meets case e = record { lives = lives; read = example-read; else = passes-else; needed = needs; is = e; answered = refl }

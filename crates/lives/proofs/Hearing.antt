@@ -17,7 +17,7 @@ use Rattle.reader.specs.Request.{methodOf}
 use Rattle.journal.specs.declared.Record.{Record}
 use Rattle.stream.specs.declared.Stream.{Stream}
 use Rattle.table.specs.Counts.{count}
-use Rattle.table.specs.Table.{noSession, has, isOpen, sessionAt, streamOf, isOn}
+use Rattle.table.specs.Table.{noSession, hasNumber, isOpen, sessionAt, streamOf, isOn}
 use Rattle.finding.specs.Finding.{lowestPlace, lowestId}
 use Rattle.table.specs.declared.Session.{Session}
 use Rattle.table.specs.declared.Settings.{Settings}
@@ -31,8 +31,8 @@ use Rattle.steps.specs.Cases.{isPassed}
 use Rattle.closings.specs.Did.{Did, nothing, then, restreamed, reseated, noting, recordOf}
 use Rattle.closings.specs.Does.{Closable}
 use Rattle.closings.specs.Closing.{closing, isExpired, sweepAt, swept, sweeping, atClock}
-use Rattle.serving.specs.Opening.{guest, seating as seated, canJoin, joining, canOpen, opening}
-use Rattle.serving.specs.Serving.{replaced, answered}
+use Rattle.serving.specs.Opening.{guest, seatingAs as seated, canJoin, joining, canOpen, opening}
+use Rattle.serving.specs.Serving.{withSession, answered}
 use Rattle.satbox.specs.Calls.{ifDone, tickOutcome, ticked, collectOutcome, collected, emptied}
 use Rattle.satbox.specs.Requests.{requestOutcome, requested, replied}
 use Rattle.serving.specs.declared.opening.Client.{Client}
@@ -149,8 +149,8 @@ module _ (n c : ℕ) (some : n ≡ 0 → ⊥) where
     kin-heard s old h e (inl k) z = rw k (h (sym e ∙ z))
     kin-heard s old h e (inr k) z = rw k now
 
-    changed-ages : (place : ℕ) (s : Session) → Kin (t .clock) s (sessionAt t place) → (u : SatBox) → Retuned t u → Ages t (nothing (replaced place s u))
-    unfolding replaced
+    changed-ages : (place : ℕ) (s : Session) → Kin (t .clock) s (sessionAt t place) → (u : SatBox) → Retuned t u → Ages t (nothing (withSession place s u))
+    unfolding withSession
     changed-ages place s k u r h =
         record {
           clock = retuned-same r .1;
@@ -223,12 +223,12 @@ module _ (n c : ℕ) (some : n ≡ 0 → ⊥) where
 once : (t : SatBox) → Whole t → (i k : ℕ) → i < 32 → (sessionAt t i .number ≡ 0 → ⊥) → (k ≡ i → ⊥) → sessionAt t k .number ≡ sessionAt t i .number → ⊥
 once t w i k l some away e =
     let n = sessionAt t i .number in
-    let less = count-set (has n) (t .sessions) i noSession noSession (omega (arith, w .places)) in
-    let none : count (has n) (set (t .sessions) i noSession) ≡ 0 =
+    let less = count-set (hasNumber n) (t .sessions) i noSession noSession (omega (arith, w .places)) in
+    let none : count (hasNumber n) (set (t .sessions) i noSession) ≡ 0 =
     omega (arith, less, w .formed .seats .numbers n some, bit-yes (eq-eqb n n refl), bit-no (ne-eqb 0 n (λ z. some (sym z)))) in
     never (eq-eqb (sessionAt t k .number) n e)
-    (subst (λ (x : Session). has n x ≡ false) (getD-set-other (t .sessions) i k noSession noSession away)
-    (count-zero-at (has n) (set (t .sessions) i noSession) k noSession (ne-eqb 0 n (λ z. some (sym z))) none))
+    (subst (λ (x : Session). hasNumber n x ≡ false) (getD-set-other (t .sessions) i k noSession noSession away)
+    (count-zero-at (hasNumber n) (set (t .sessions) i noSession) k noSession (ne-eqb 0 n (λ z. some (sym z))) none))
 
 refreshed-heard : {t u : SatBox} {place id clock port plays : ℕ} {m : Stream} → Whole t → place < 32 → (sessionAt t place .number ≡ 0 → ⊥)
     → Changes t u place (but clock port plays (sessionAt t place)) id m → (i : ℕ) → Same i place → sessionAt u i .number ≡ sessionAt t place .number → clock ≤ sessionAt u i .last

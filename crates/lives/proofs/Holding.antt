@@ -25,7 +25,7 @@ use Rattle.satbox.proofs.Kept.{fresh-whole}
 use Rattle.serving.proofs.RecordLaws.{Counts-on}
 use Rattle.serving.proofs.Recorded.{Recorded}
 use Rattle.promises.proofs.Written.{Counted}
-use Rattle.lives.specs.Calls.{Lent, own, lent, ownAfter, Life, after}
+use Rattle.lives.specs.Calls.{Lent, own, lent, ownAfter, Life, lifeAfter}
 use Rattle.lives.proofs.Fitting.{all-both}
 use Rattle.lives.proofs.Journals.{take-written, counts-both}
 
@@ -49,7 +49,7 @@ pub sized : {settings : Settings} {x : Life} → Good settings x → x .satbox .
 sized g = size-of (g .set)
 
 -- A FRESH BOX
-pub born-good : (settings : Settings) (j : List ℕ) → areSizes settings ≡ true → length j ≡ settings .size → Good settings (after settings j [])
+pub born-good : (settings : Settings) (j : List ℕ) → areSizes settings ≡ true → length j ≡ settings .size → Good settings (lifeAfter settings j [])
 born-good settings j e h =
     record {
       whole = fresh-whole settings e;

@@ -12,7 +12,7 @@ use Rattle.journal.specs.declared.Record.{Record}
 use Rattle.stream.specs.Streams.{pastStream}
 use Rattle.stream.specs.declared.Stream.{Stream}
 use Rattle.table.specs.Counts.{any, count}
-use Rattle.table.specs.Table.{noSession, has, streamIn, withStream, isOn, owns}
+use Rattle.table.specs.Table.{noSession, hasNumber, streamIn, withStream, isOn, owns}
 use Rattle.table.specs.declared.Session.{Session}
 use Rattle.table.proofs.Counts.{bit-no, bit-yes, count-set, count-zero-at, none-count, getD-set-alike}
 use Rattle.promises.proofs.Serving.{Alike}
@@ -54,7 +54,7 @@ abbrev pub isHolder : ℕ → Frontend → Bool
 isHolder n a = isHeldBy (λ m. eqb m n) a
 
 abbrev pub keeps : List Stream → ℕ → ℕ → Session → Bool
-keeps ms f n s = owns (s .stream) s && (has n s && eqb (streamIn ms (s .stream) .frontend) f)
+keeps ms f n s = owns (s .stream) s && (hasNumber n s && eqb (streamIn ms (s .stream) .frontend) f)
 
 -- THE AUDIT, one record more
 abbrev auditedFrom : ℕ → Frontend → List Record → Frontend
@@ -109,23 +109,23 @@ noted-joined f r e a =
     (λ y. k ∙ joined-still r e a) (λ y. refl)
 
 -- OF THE LISTS: who keeps a frontend has its number, and owns his stream
-keeps-has : (ms : List Stream) (f n : ℕ) (s : Session) → keeps ms f n s ≡ true → has n s ≡ true
-keeps-has ms f n s e = and-both (has n s) _ (and-both (owns (s .stream) s) _ e .1) .0
+keeps-has : (ms : List Stream) (f n : ℕ) (s : Session) → keeps ms f n s ≡ true → hasNumber n s ≡ true
+keeps-has ms f n s e = and-both (hasNumber n s) _ (and-both (owns (s .stream) s) _ e .1) .0
 
-keeps-other : (ms : List Stream) (f n : ℕ) (s : Session) → has n s ≡ false → keeps ms f n s ≡ false
+keeps-other : (ms : List Stream) (f n : ℕ) (s : Session) → hasNumber n s ≡ false → keeps ms f n s ≡ false
 keeps-other ms f n s e = rw e (and-false (owns (s .stream) s))
 
 pub keeps-feed : (ms : List Stream) (f n : ℕ) (s : Session) → (streamIn ms (s .stream) .frontend ≡ f → ⊥) → keeps ms f n s ≡ false
-keeps-feed ms f n s h = rw (ne-eqb (streamIn ms (s .stream) .frontend) f h, and-false (has n s), and-false (owns (s .stream) s))
+keeps-feed ms f n s h = rw (ne-eqb (streamIn ms (s .stream) .frontend) f h, and-false (hasNumber n s), and-false (owns (s .stream) s))
 
 -- ONE CLOSES, whose number no other has
-module _ (ms : List Stream) (l : List Session) (i : ℕ) (h : i < length l) (some : getD l i noSession .number ≡ 0 → ⊥) (once : count (has (getD l i noSession .number)) l ≤ 1) (f : ℕ) where
+module _ (ms : List Stream) (l : List Session) (i : ℕ) (h : i < length l) (some : getD l i noSession .number ≡ 0 → ⊥) (once : count (hasNumber (getD l i noSession .number)) l ≤ 1) (f : ℕ) where
   pub closed-keeps : any (keeps ms f (getD l i noSession .number)) (set l i noSession) ≡ false
   closed-keeps =
       let n = getD l i noSession .number in
-      let c = count-set (has n) l i noSession noSession h in
-      let z : count (has n) (set l i noSession) ≡ 0 = omega (arith, c, bit-yes (eq-eqb n n refl), bit-no (ne-eqb 0 n (λ q. some (sym q)))) in
-      any-less (keeps ms f n) (has n) (keeps-has ms f n) (set l i noSession) (none-count (has n) (set l i noSession) z)
+      let c = count-set (hasNumber n) l i noSession noSession h in
+      let z : count (hasNumber n) (set l i noSession) ≡ 0 = omega (arith, c, bit-yes (eq-eqb n n refl), bit-no (ne-eqb 0 n (λ q. some (sym q)))) in
+      any-less (keeps ms f n) (hasNumber n) (keeps-has ms f n) (set l i noSession) (none-count (hasNumber n) (set l i noSession) z)
 
   -- it kept no frontend but its stream's
   pub closed-kept : (streamIn ms (getD l i noSession .stream) .frontend ≡ f → ⊥) → any (keeps ms f (getD l i noSession .number)) l ≡ false
@@ -142,7 +142,7 @@ off-keeps : (ms : List Stream) (id : ℕ) (m : Stream) (f n : ℕ) (s : Session)
 off-keeps ms id m f n s off (isnt z) = rw z
 off-keeps ms id m f n s off (is z) =
     let away : s .stream ≡ id → ⊥ = λ q. never (subst (λ k. isOn k s ≡ true) q (and-both (isOn (s .stream) s) _ z .0)) off in
-    ap (λ (x : Stream). owns (s .stream) s && (has n s && eqb (x .frontend) f)) (stream-other id (s .stream) m ms away)
+    ap (λ (x : Stream). owns (s .stream) s && (hasNumber n s && eqb (x .frontend) f)) (stream-other id (s .stream) m ms away)
 
 pub freed-keeps : (ms : List Stream) (id : ℕ) (m : Stream) (l : List Session) → count (isOn id) l ≡ 0 → (f n : ℕ) → any (keeps (withStream id m ms) f n) l ≡ any (keeps ms f n) l
 freed-keeps ms id m l none f n =
@@ -158,7 +158,7 @@ with-feed ms (suc i) m e (suc k) = getD-set-alike (λ (x : Stream). x .frontend)
 pub fed-keeps : (ms : List Stream) (id : ℕ) (m : Stream) → m .frontend ≡ streamIn ms id .frontend → (l : List Session) (f n : ℕ) → any (keeps (withStream id m ms) f n) l ≡ any (keeps ms f n) l
 fed-keeps ms id m e l f n =
     any-alike (keeps (withStream id m ms) f n) (keeps ms f n) l noSession
-    (λ i. let s = getD l i noSession in ap (λ k. owns (s .stream) s && (has n s && eqb k f)) (with-feed ms id m e (s .stream)))
+    (λ i. let s = getD l i noSession in ap (λ k. owns (s .stream) s && (hasNumber n s && eqb k f)) (with-feed ms id m e (s .stream)))
 
 -- A SESSION CHANGES, but keeps its number, its stream and its part
 pub alike-keeps : (ms : List Stream) (l : List Session) (i : ℕ) (s : Session) → Alike s (getD l i noSession) → (f n : ℕ) → any (keeps ms f n) (set l i s) ≡ any (keeps ms f n) l

@@ -17,7 +17,7 @@ use Rattle.journal.specs.declared.Record.{Record}
 use Rattle.stream.specs.Streams.{pastStream}
 use Rattle.stream.specs.declared.Stream.{Stream}
 use Rattle.table.specs.Counts.{any, count}
-use Rattle.table.specs.Table.{noSession, has, isOpen, sessionAt, isOn, owns}
+use Rattle.table.specs.Table.{noSession, hasNumber, isOpen, sessionAt, isOn, owns}
 use Rattle.finding.specs.Finding.{lowestPlace, lowestId}
 use Rattle.table.specs.declared.Session.{Session}
 use Rattle.table.specs.declared.SatBox.{SatBox}
@@ -28,8 +28,8 @@ use Rattle.table.proofs.Changes.{opened, seated-live}
 use Rattle.steps.specs.Cases.{isPassed}
 use Rattle.closings.specs.Did.{Did, nothing, restreamed, reseated, noting}
 use Rattle.closings.specs.Closing.{isExpired, sweeping, atClock}
-use Rattle.serving.specs.Opening.{hasPlace, guest, seating as seated, canJoin, joining, canOpen, opening}
-use Rattle.serving.specs.Serving.{replaced, answered}
+use Rattle.serving.specs.Opening.{hasPlace, guest, seatingAs as seated, canJoin, joining, canOpen, opening}
+use Rattle.serving.specs.Serving.{withSession, answered}
 use Rattle.serving.specs.declared.opening.Client.{Client}
 use Rattle.satbox.specs.Calls.{ifDone, ticked, collected, emptied}
 use Rattle.satbox.specs.Requests.{requested, replied}
@@ -66,8 +66,8 @@ record Lasts (t : SatBox) (d : Did) : Type 0 where
 lasts-nothing : (t : SatBox) → Lasts t (nothing t)
 lasts-nothing t = record { numbers = λ i some. refl; opens = refl }
 
-changed-lasts : {t u : SatBox} (place : ℕ) (s : Session) → Kin (t .clock) s (sessionAt t place) → Retuned t u → Lasts t (nothing (replaced place s u))
-unfolding replaced
+changed-lasts : {t u : SatBox} (place : ℕ) (s : Session) → Kin (t .clock) s (sessionAt t place) → Retuned t u → Lasts t (nothing (withSession place s u))
+unfolding withSession
 changed-lasts {t} place s k r =
     record {
       numbers = rw (retuned-same r .0) (λ i some. getD-set-alike (λ (x : Session). x .number) (t .sessions) place i s noSession (k .alike .number));
@@ -151,7 +151,7 @@ module _ (x : Life) (w : Whole (x .satbox)) (i : ℕ) (some : isOpen (sessionAt 
       let s = sessionAt (x .satbox) i in
       let r = sessionAt (x .satbox) owner in
       let q : r .stream ≡ s .stream = eqb-true _ _ (and-both (isOpen r) _ (and-both (isOn (s .stream) r) _ owner-owns .0) .1) in
-      or-right (has (s .number) r) (subst (λ id. owns id r && isOn id s ≡ true) (sym q) (both owner-owns (both some (eq-eqb (s .stream) (s .stream) refl))))
+      or-right (hasNumber (s .number) r) (subst (λ id. owns id r && isOn id s ≡ true) (sym q) (both owner-owns (both some (eq-eqb (s .stream) (s .stream) refl))))
 
   -- by a sweep
   swept-ends : {clock : ℕ} {c : Call} → Sweeps clock c → Ends (x .satbox) i c ⊎ Stays (x .satbox) i (sweeping clock (x .satbox) .satbox)

@@ -1,5 +1,5 @@
 -- THE LIFE OF A BOX, in seven statements: for every F and C in range, every first journal of C bytes and every sequence of calls that a caller may make
--- (`Lives`, `isCall`), of the box, the journal and the history after them (`after`, the fold of the calls' meanings from a fresh box).
+-- (`Lives`, `isCall`), of the box, the journal and the history after them (`lifeAfter`, the fold of the calls' meanings from a fresh box).
 -- Every call of a life is one that comes after others, so what holds after every sequence holds after every call. Assumes nothing.
 use mathlib.Core.Path.{_≡_, sym, _∙_, ap}
 use mathlib.Core.Bool.{true, false}
@@ -18,7 +18,7 @@ use Rattle.journal.specs.Calls.{readAt}
 use Rattle.journal.specs.declared.Record.{Record}
 use Rattle.journal.specs.declared.Reading.the-variants.{Sound}
 use Rattle.table.specs.Counts.{any, count}
-use Rattle.table.specs.Table.{isOpen, opens, sessionAt, isOn, owns}
+use Rattle.table.specs.Table.{isOpen, openCount, sessionAt, isOn, owns}
 use Rattle.table.specs.Formed.{wellFormed}
 use Rattle.finding.specs.Finding.{isHeld}
 use Rattle.table.specs.Made.{fresh}
@@ -34,7 +34,7 @@ use Rattle.closings.specs.Closing.{isExpired, atClock, sweeping}
 use Rattle.satbox.specs.Requests.{requested, replied}
 use Rattle.closings.proofs.DoesLaws.{bytes-append}
 use Rattle.closings.proofs.Keeping.{whole-formed}
-use Rattle.lives.specs.Calls.{Lent, Call, request, order, refusedBy, lacksJournal, isCall, Life, live, run, recordsOf, Lives, after}
+use Rattle.lives.specs.Calls.{Lent, Call, request, order, refusedBy, lacksJournal, isCall, Life, live, run, recordsOf, Lives, lifeAfter}
 use Rattle.lives.specs.Closed.{Closed, isClosingOf, isTimeOut, Fares, placeNamedBy, KeepsAlive, Sweeps, Stays, TearsDown, Ends, saysClosed, saysOpened, unnumbered, sweepClosings, teardownClosings, PassesElse}
 use Rattle.lives.specs.Audit.{letGo, isHeldBy, audited, holds, Quiet, Notes, Leads, LetGo}
 use Rattle.lives.proofs.Journals.{counts-at, counts-next}
@@ -56,7 +56,7 @@ use Rattle.lives.proofs.Rooms.{refused-exactly, passed-exactly}
 
 module _ (settings : Settings) (j : List ℕ) (cs : List Call) where
   abbrev x : Life
-  x = after settings j cs
+  x = lifeAfter settings j cs
 
   module _ (h : Lives settings j cs) where
     -- 1. EVERY REACHABLE BOX IS WELL FORMED (`table/specs/Formed.wellFormed`),
@@ -104,7 +104,7 @@ module _ (settings : Settings) (j : List ℕ) (cs : List Call) where
     call-writes-its-records c e = live-good (after-good h) c e .text
 
     -- 3. BYTES HELD PLUS 16 FOR EACH OPEN SESSION NEVER EXCEED C
-    pub room-for-every-closing : x .satbox .held + recordSize * opens (x .satbox) ≤ settings .size
+    pub room-for-every-closing : x .satbox .held + recordSize * openCount (x .satbox) ≤ settings .size
     room-for-every-closing = omega (arith, after-good h .whole .formed .fits .bound, sized (after-good h))
 
     -- 4. NO CLOSING IS EVER HELD BACK, in a request or a tick at any clock (`Sweeps`) that was not refused by number: of the sessions open before it
@@ -220,12 +220,12 @@ module _ (settings : Settings) (j : List ℕ) (cs : List Call) where
 
       module _ (read : requestRefusal (settings .frontends) s ≡ refusal.Passed) (else : PassesElse u (askedOf (settings .frontends) s) (listsOf s)) where
         -- is refused for journal room, step 18, exactly if bytes held, plus 16 for each open session, plus 32, exceed C; both directions
-        pub refused-for-room : (requested s clock address draw (x .satbox) .case ≡ Full) ↔ (settings .size < u .held + recordSize * opens u + 2 * recordSize)
+        pub refused-for-room : (requested s clock address draw (x .satbox) .case ≡ Full) ↔ (settings .size < u .held + recordSize * openCount u + 2 * recordSize)
         unfolding requested
         refused-for-room = refused-exactly settings s address draw u (swept-set h clock) read else
 
         -- and else it passes
-        pub passed-with-room : u .held + recordSize * opens u + 2 * recordSize ≤ settings .size → requested s clock address draw (x .satbox) .case ≡ Passed
+        pub passed-with-room : u .held + recordSize * openCount u + 2 * recordSize ≤ settings .size → requested s clock address draw (x .satbox) .case ≡ Passed
         unfolding requested
         passed-with-room = passed-exactly settings s address draw u (swept-set h clock) read else
 
@@ -267,13 +267,13 @@ module _ (settings : Settings) (j : List ℕ) (cs : List Call) where
 
     -- no record is of nobody: the step that writes one opens one session more or closes one, no other step does, and so as many are open as the
     -- history has openings less closings (`saysOpened`, `saysClosed`)
-    pub each-record-is-of-one : {t : SatBox} {d : Did} → Notes t d → opens (d .satbox) + count saysClosed (d .records) ≡ opens t + count saysOpened (d .records)
+    pub each-record-is-of-one : {t : SatBox} {d : Did} → Notes t d → openCount (d .satbox) + count saysClosed (d .records) ≡ openCount t + count saysOpened (d .records)
     each-record-is-of-one = note-moves-one
 
-    pub no-other-step-opens-or-closes : {t u : SatBox} → Quiet t u → opens u ≡ opens t
+    pub no-other-step-opens-or-closes : {t u : SatBox} → Quiet t u → openCount u ≡ openCount t
     no-other-step-opens-or-closes = quiet-moves-none
 
-    pub open-are-the-opened-and-not-closed : opens (x .satbox) + count saysClosed (x .history) ≡ count saysOpened (x .history)
+    pub open-are-the-opened-and-not-closed : openCount (x .satbox) + count saysClosed (x .history) ≡ count saysOpened (x .history)
     open-are-the-opened-and-not-closed = omega (arith, leads-count (after-leads h))
 
     -- and so is each call of it, from the box before it to the box after it

@@ -11,14 +11,14 @@ use borrow.Author.Tests.{eq-eqb, ne-eqb}
 use Rattle.scan.proofs.Bools.{by-cases}
 use Rattle.journal.specs.declared.Record.{Record}
 use Rattle.table.specs.Counts.{count}
-use Rattle.table.specs.Table.{noSession, isOpen, opens as openIn, sessionAt}
+use Rattle.table.specs.Table.{noSession, isOpen, openCount as openIn, sessionAt}
 use Rattle.table.specs.declared.Session.{Session}
 use Rattle.table.specs.declared.SatBox.{SatBox}
 use Rattle.table.proofs.Counts.{count-set, count-set-same}
 use Rattle.closings.specs.Did.{Did, restreamed, reseated, noting}
 use Rattle.closings.specs.Closing.{closeOne, atClock}
 use Rattle.satbox.specs.Calls.{emptied}
-use Rattle.serving.specs.Serving.{replaced}
+use Rattle.serving.specs.Serving.{withSession}
 use Rattle.lives.specs.Closed.{saysClosed, saysOpened}
 use Rattle.lives.specs.Audit.{Quiet, clocked, restream, retune, replace, empty, Notes, opensAsOwner, joins, closes, Leads, begun, quiet, noted}
 
@@ -48,7 +48,7 @@ note-moves-one {t} (closes cause place p) = omega (arith, less t place p)
 
 -- NOTHING ELSE opens or closes one
 pub quiet-moves-none : {t u : SatBox} → Quiet t u → openIn u ≡ openIn t
-unfolding atClock restreamed replaced emptied
+unfolding atClock restreamed withSession emptied
 quiet-moves-none (clocked clock) = refl
 quiet-moves-none (restream id m e) = refl
 quiet-moves-none (retune id m e) = refl

@@ -26,7 +26,7 @@ use Rattle.satbox.specs.Calls.{ifDone, tickOutcome, ticked, collectOutcome, emp
 use Rattle.satbox.specs.Requests.{requestOutcome, requested, replied}
 use Rattle.closings.proofs.DoesLaws.{bytes-length}
 use Rattle.serving.proofs.RecordLaws.{Counts-on}
-use Rattle.lives.specs.Calls.{lent, Call, request, tick, collect, order, isShort, isCall, Life, live, run, Lives, after}
+use Rattle.lives.specs.Calls.{lent, Call, request, tick, collect, order, isShort, isCall, Life, live, run, Lives, lifeAfter}
 use Rattle.lives.proofs.Journals.{counts-at}
 use Rattle.lives.proofs.Fitting.{Short, isFit, Fits, all-both, sweeping-fits, requested-fits}
 use Rattle.lives.proofs.Holding.{Good, born-good}
@@ -127,10 +127,10 @@ free-place zero k = refl
 free-place (suc n) zero = refl
 free-place (suc n) (suc k) = free-place n k
 
-born-fitted : (settings : Settings) (j : List ℕ) → Fitted (after settings j [])
+born-fitted : (settings : Settings) (j : List ℕ) → Fitted (lifeAfter settings j [])
 born-fitted settings j =
     record { numbers = λ k. subst (λ (s : Session). s .number < 4294967296) (sym (free-place 32 k)) (omega arith); fit = refl }
 
-pub after-fit : {settings : Settings} {j : List ℕ} {cs : List Call} → Lives settings j cs → all isFit (after settings j cs .history) ≡ true
+pub after-fit : {settings : Settings} {j : List ℕ} {cs : List Call} → Lives settings j cs → all isFit (lifeAfter settings j cs .history) ≡ true
 after-fit {settings} {j} {cs} h =
     run-fitted cs (h .calls) (born-good settings j (h .sizes) (h .journal)) (born-fitted settings j) .fit

@@ -23,7 +23,7 @@ use Rattle.closings.specs.Did.{Did, nothing, restreamed}
 use Rattle.closings.specs.Does.{Closable}
 use Rattle.closings.specs.Closing.{closing}
 use Rattle.serving.specs.Opening.{joining, opening}
-use Rattle.serving.specs.Serving.{merging, merges, replaced, refreshed, after, Serving, keeping, retuning, seating, grant, clientOf, answered}
+use Rattle.serving.specs.Serving.{merging, merges, withSession, refreshed, seatAfter, Serving, keeping, retuning, seating, grant, clientOf, answered}
 use Rattle.serving.specs.declared.opening.Client.{Client}
 use Rattle.closings.proofs.Keeping.{Whole}
 use Rattle.serving.proofs.Passing.{Untested, named-needed, own-live}
@@ -51,7 +51,7 @@ retuned-same (merged id m e) = (refl, refl)
 -- what is to be shown of a request with a method
 pub record Steps (t : SatBox) (method : Method) (draw : ℕ) (R : Did → Type 0) : Type 0 where
   pub still : R (nothing t)
-  pub changed : (place : ℕ) (s : Session) → Kin (t .clock) s (sessionAt t place) → (u : SatBox) → Retuned t u → R (nothing (replaced place s u))
+  pub changed : (place : ℕ) (s : Session) → Kin (t .clock) s (sessionAt t place) → (u : SatBox) → Retuned t u → R (nothing (withSession place s u))
   pub joined : (id : ℕ) (client : Client) → client .draw ≡ draw → R (joining id client t)
   pub opened : (m : Stream) (client : Client) → client .draw ≡ draw → R (opening m client t)
   pub closed : method ≡ Teardown → (place : ℕ) → Closable t place → R (closing 1 place t)
@@ -72,7 +72,7 @@ module _ (t : SatBox) (a : Asked) (l : Lists) (client : Client) (w : Whole t) (R
         ap (λ (c : Change). c .stream .frontend) (merging-live t a l client (sightOf t a) refl (λ e. live (ap (λ i. streamOf t i .frontend) e)))
         ∙ merge-frontend (streamOf t (a .stream)) (a .codes) (l .pids) (l .delpids) (l .addpids)
 
-    after-kin : Kin (t .clock) (after (sightOf t a)) (sessionAt t (sightOf t a .place))
+    after-kin : Kin (t .clock) (seatAfter (sightOf t a)) (sessionAt t (sightOf t a .place))
     unfolding sightOf
     after-kin =
         cond-keeps (λ (s : Session). Kin (t .clock) s (sessionAt t (sightOf t a .place))) (isSetup (sightOf t a .method)) _ _
@@ -82,8 +82,8 @@ module _ (t : SatBox) (a : Asked) (l : Lists) (client : Client) (w : Whole t) (R
     retuning-holds : R (retuning t a l .did)
     retuning-holds =
         let place = sightOf t a .place in
-        let s = after (sightOf t a) in
-        cond-keeps (λ (u : SatBox). R (nothing (replaced place s u))) (merges (sightOf t a)) (restreamed (a .stream) (merging t a l .stream) t) t
+        let s = seatAfter (sightOf t a) in
+        cond-keeps (λ (u : SatBox). R (nothing (withSession place s u))) (merges (sightOf t a)) (restreamed (a .stream) (merging t a l .stream) t) t
         (λ e. k .changed place s after-kin _ (merged (a .stream) (merging t a l .stream) merging-feed)) (λ e. k .changed place s after-kin t as-it-was)
 
   grant-holds : (m : Method) → a .method ≡ m → R (grant m t a l client .did)

@@ -12,13 +12,13 @@ use Rattle.aim.specs.declared.Method.{Method}
 use Rattle.aim.specs.declared.Method.the-variants.{Options, Setup, Play, Teardown, Other}
 use Rattle.refusals.specs.declared.Refusal.the-variants as refusal
 use Rattle.reader.specs.Request.{requestRefusal}
-use Rattle.table.specs.Table.{opens, streamOf, isLive}
+use Rattle.table.specs.Table.{openCount, streamOf, isLive}
 use Rattle.table.specs.declared.Settings.{Settings}
 use Rattle.table.specs.declared.SatBox.{SatBox}
 use Rattle.refusals.specs.Refusals.{_refuses_or_}
 use Rattle.steps.specs.Asked.{Asked, Lists, askedOf, listsOf}
 use Rattle.steps.specs.Sights.{sightOf}
-use Rattle.steps.specs.Steps.{isSetup, isDead}
+use Rattle.steps.specs.Steps.{isSetup, namesDead}
 use Rattle.steps.specs.declared.cases.Case.{Case}
 use Rattle.steps.specs.declared.cases.Case.the-variants.{Passed, Full}
 use Rattle.serving.specs.Opening.{hasRoom}
@@ -38,7 +38,7 @@ setup-only Other e = never e refl
 module _ (t : SatBox) (a : Asked) (l : Lists) (p : PassesElse t a l) where
   -- a stream that is named is live, by step 12
   live : (sightOf t a .stream ≡ 0 → ⊥) → isLive (streamOf t (sightOf t a .stream)) ≡ true
-  unfolding isDead sightOf
+  unfolding namesDead sightOf
   live some =
       let m = setup-only (sightOf t a .method) (and-both (isSetup (sightOf t a .method)) _ (p .opening) .0) in
       rw (rw (m, ne-eqb (sightOf t a .stream) 0 some) at (untested (sightOf t a) (p .seen) .stream))
@@ -72,30 +72,30 @@ module _ (s : List ℕ) (address draw : ℕ) (t : SatBox) (read : requestRefusal
   unfolding answered
   answered-is = rw read
 
-  without-room : t .settings .size < t .held + 16 * opens t + 32 → answered s address draw t .case ≡ Full
+  without-room : t .settings .size < t .held + 16 * openCount t + 32 → answered s address draw t .case ≡ Full
   without-room h =
       ap (λ (x : Serving). x .case) answered-is
-      ∙ full-case t (askedOf (t .settings .frontends) s) (listsOf s) p (clientOf address draw (askedOf (t .settings .frontends) s)) (lt-leb (t .held + 16 * opens t + 32) (t .settings .size) h)
+      ∙ full-case t (askedOf (t .settings .frontends) s) (listsOf s) p (clientOf address draw (askedOf (t .settings .frontends) s)) (lt-leb (t .held + 16 * openCount t + 32) (t .settings .size) h)
 
-  with-room : t .held + 16 * opens t + 32 ≤ t .settings .size → answered s address draw t .case ≡ Passed
+  with-room : t .held + 16 * openCount t + 32 ≤ t .settings .size → answered s address draw t .case ≡ Passed
   with-room h =
       ap (λ (x : Serving). x .case) answered-is
-      ∙ passed-case t (askedOf (t .settings .frontends) s) (listsOf s) p (clientOf address draw (askedOf (t .settings .frontends) s)) (le-leb (t .held + 16 * opens t + 32) (t .settings .size) h)
+      ∙ passed-case t (askedOf (t .settings .frontends) s) (listsOf s) p (clientOf address draw (askedOf (t .settings .frontends) s)) (le-leb (t .held + 16 * openCount t + 32) (t .settings .size) h)
 
-  room-exactly : (answered s address draw t .case ≡ Full) ↔ (t .settings .size < t .held + 16 * opens t + 32)
+  room-exactly : (answered s address draw t .case ≡ Full) ↔ (t .settings .size < t .held + 16 * openCount t + 32)
   room-exactly =
-      (λ e. by-cases (decLt (t .settings .size) (t .held + 16 * opens t + 32)) (λ h. h) (λ h. absurd (full-not-passed e (with-room (omega arith)))), without-room)
+      (λ e. by-cases (decLt (t .settings .size) (t .held + 16 * openCount t + 32)) (λ h. h) (λ h. absurd (full-not-passed e (with-room (omega arith)))), without-room)
 
 -- the same of a swept box t whose frontends and journal's size are known
 module _ (settings : Settings) (s : List ℕ) (address draw : ℕ) (t : SatBox) (e : t .settings ≡ settings) where
   pub refused-exactly : requestRefusal (settings .frontends) s ≡ refusal.Passed → PassesElse t (askedOf (settings .frontends) s) (listsOf s)
-      → (answered s address draw t .case ≡ Full) ↔ (settings .size < t .held + 16 * opens t + 32)
+      → (answered s address draw t .case ≡ Full) ↔ (settings .size < t .held + 16 * openCount t + 32)
   refused-exactly =
-      subst (λ (r : Settings). requestRefusal (r .frontends) s ≡ refusal.Passed → PassesElse t (askedOf (r .frontends) s) (listsOf s) → (answered s address draw t .case ≡ Full) ↔ (r .size < t .held + 16 * opens t + 32)) e
+      subst (λ (r : Settings). requestRefusal (r .frontends) s ≡ refusal.Passed → PassesElse t (askedOf (r .frontends) s) (listsOf s) → (answered s address draw t .case ≡ Full) ↔ (r .size < t .held + 16 * openCount t + 32)) e
       (room-exactly s address draw t)
 
   pub passed-exactly : requestRefusal (settings .frontends) s ≡ refusal.Passed → PassesElse t (askedOf (settings .frontends) s) (listsOf s)
-      → t .held + 16 * opens t + 32 ≤ settings .size → answered s address draw t .case ≡ Passed
+      → t .held + 16 * openCount t + 32 ≤ settings .size → answered s address draw t .case ≡ Passed
   passed-exactly =
-      subst (λ (r : Settings). requestRefusal (r .frontends) s ≡ refusal.Passed → PassesElse t (askedOf (r .frontends) s) (listsOf s) → t .held + 16 * opens t + 32 ≤ r .size → answered s address draw t .case ≡ Passed) e
+      subst (λ (r : Settings). requestRefusal (r .frontends) s ≡ refusal.Passed → PassesElse t (askedOf (r .frontends) s) (listsOf s) → t .held + 16 * openCount t + 32 ≤ r .size → answered s address draw t .case ≡ Passed) e
       (with-room s address draw t)

@@ -24,7 +24,7 @@ use Rattle.serving.proofs.RecordLaws.{swept-numbered}
 use Rattle.serving.proofs.Recorded.{swept-recorded}
 use Rattle.promises.proofs.Reading.{request-whole, request-recorded}
 use Rattle.promises.proofs.Written.{Counted, requested-counted}
-use Rattle.lives.specs.Calls.{own, other, Call, request, tick, collect, order, isShort, isLent, isCall, Life, live, run, Lives, after}
+use Rattle.lives.specs.Calls.{own, other, Call, request, tick, collect, order, isShort, isLent, isCall, Life, live, run, Lives, lifeAfter}
 use Rattle.lives.proofs.Settings.{sweeping-set, requested-set}
 use Rattle.lives.proofs.Holding.{Good, sized, born-good, Works, worked, emptiedInto, same-good, worked-good, collected-good}
 
@@ -98,10 +98,10 @@ run-good : {settings : Settings} (cs : List Call) {x : Life} → all (isCall (se
 run-good [] e g = g
 run-good {settings = settings} (c ∷ cs) e g = let p = and-both (isCall (settings .size) c) _ e in run-good cs (p .1) (live-good g c (p .0))
 
-pub after-good : {settings : Settings} {j : List ℕ} {cs : List Call} → Lives settings j cs → Good settings (after settings j cs)
+pub after-good : {settings : Settings} {j : List ℕ} {cs : List Call} → Lives settings j cs → Good settings (lifeAfter settings j cs)
 after-good {settings} {j} {cs} h = run-good cs (h .calls) (born-good settings j (h .sizes) (h .journal))
 
 -- and the box after expired sessions are closed has its frontends and its size still
 module _ {settings : Settings} {j : List ℕ} {cs : List Call} (h : Lives settings j cs) (clock : ℕ) where
-  pub swept-set : sweeping clock (after settings j cs .satbox) .satbox .settings ≡ settings
-  swept-set = sweeping-set clock (after settings j cs .satbox) (after-good h .whole) .settings ∙ after-good h .set
+  pub swept-set : sweeping clock (lifeAfter settings j cs .satbox) .satbox .settings ≡ settings
+  swept-set = sweeping-set clock (lifeAfter settings j cs .satbox) (after-good h .whole) .settings ∙ after-good h .set

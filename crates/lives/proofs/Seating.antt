@@ -22,7 +22,7 @@ use Rattle.table.proofs.Counts.{count-zero-at, first-passes}
 use Rattle.table.proofs.Rules.{fed}
 use Rattle.finding.proofs.Draws.{drawn-nonzero}
 use Rattle.closings.specs.Did.{restreamed, reseated, noting, recordOf}
-use Rattle.serving.specs.Opening.{hasPlace, guest, seating, canJoin, canOpen}
+use Rattle.serving.specs.Opening.{hasPlace, guest, seatingAs, canJoin, canOpen}
 use Rattle.serving.specs.declared.opening.Client.{Client}
 use Rattle.closings.proofs.Keeping.{Whole}
 use Rattle.serving.proofs.OpeningKeeps.{new-feed, row}
@@ -69,8 +69,8 @@ place-free t e =
     (h, eqb-true _ _ (first-passes isFree (t .sessions) noSession h))
 
 -- A SESSION JOINS
-pub agree-joined : (h : List Record) (id : ℕ) (client : Client) (t : SatBox) → canJoin id t ≡ true → Agree h t → Agree (h ++ seating 2 (guest 0 id client t) t .records) (seating 2 (guest 0 id client t) t .satbox)
-unfolding seating noting reseated
+pub agree-joined : (h : List Record) (id : ℕ) (client : Client) (t : SatBox) → canJoin id t ≡ true → Agree h t → Agree (h ++ seatingAs 2 (guest 0 id client t) t .records) (seatingAs 2 (guest 0 id client t) t .satbox)
+unfolding seatingAs noting reseated
 agree-joined h id client t e g =
     let s = guest 0 id client t in
     let place = lowestPlace (t .sessions) in
@@ -113,8 +113,8 @@ module _ (h : List Record) (m : Stream) (client : Client) (t : SatBox) (short : 
   abbrev r : Record
   r = recordOf 1 0 s u
 
-  pub agree-opened : Agree (h ++ seating 1 s u .records) (seating 1 s u .satbox)
-  unfolding seating noting reseated restreamed
+  pub agree-opened : Agree (h ++ seatingAs 1 s u .records) (seatingAs 1 s u .satbox)
+  unfolding seatingAs noting reseated restreamed
   agree-opened =
       let place = lowestPlace (t .sessions) in
       let free = place-free t (and-both (hasPlace t) _ e .0) in

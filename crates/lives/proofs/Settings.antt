@@ -12,8 +12,8 @@ use Rattle.table.specs.declared.Outcome.the-variants.{Done, Refused}
 use Rattle.closings.specs.Did.{Did, nothing, restreamed, reseated, noting}
 use Rattle.closings.specs.Does.{Closable}
 use Rattle.closings.specs.Closing.{closing, sweeping, atClock}
-use Rattle.serving.specs.Opening.{guest, seating as seated, canJoin, joining, canOpen, opening}
-use Rattle.serving.specs.Serving.{replaced, answered}
+use Rattle.serving.specs.Opening.{guest, seatingAs as seated, canJoin, joining, canOpen, opening}
+use Rattle.serving.specs.Serving.{withSession, answered}
 use Rattle.satbox.specs.Calls.{ifDone, tickOutcome, emptied, ticked, collectOutcome, collected}
 use Rattle.satbox.specs.Requests.{requestOutcome, requested, replied}
 use Rattle.serving.specs.declared.opening.Client.{Client}
@@ -56,8 +56,8 @@ opening-set m client t =
     (λ e. record { settings = refl; clock = refl }) (λ e. same-set t)
 
 -- A SESSION CHANGED in its place, with a query merged or not
-changed-set : {t u : SatBox} (place : ℕ) (s : Session) → Retuned t u → Sets t (nothing (replaced place s u))
-unfolding replaced restreamed
+changed-set : {t u : SatBox} (place : ℕ) (s : Session) → Retuned t u → Sets t (nothing (withSession place s u))
+unfolding withSession restreamed
 changed-set place s as-it-was = record { settings = refl; clock = refl }
 changed-set place s (merged id m e) = record { settings = refl; clock = refl }
 

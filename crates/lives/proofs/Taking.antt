@@ -14,7 +14,7 @@ use Rattle.scan.proofs.Bools.{never, and-both, both, or-second, or-right, by-ca
 use Rattle.journal.specs.declared.Record.{Record}
 use Rattle.stream.specs.Streams.{noStream, pastStream}
 use Rattle.table.specs.Counts.{count}
-use Rattle.table.specs.Table.{noSession, has, isOpen, sessionAt, streamOf, isOn, owns}
+use Rattle.table.specs.Table.{noSession, hasNumber, isOpen, sessionAt, streamOf, isOn, owns}
 use Rattle.table.specs.declared.Session.{Session}
 use Rattle.table.specs.declared.SatBox.{SatBox}
 use Rattle.table.proofs.Counts.{bit-yes, bit-no, count-set, count-zero-at, getD-set-here}
@@ -67,14 +67,14 @@ pub takes-self : (s : Session) → takes s s ≡ true
 takes-self s = rw (eq-eqb (s .number) (s .number) refl)
 
 pub takes-on : (r s : Session) → owns (r .stream) r ≡ true → isOn (r .stream) s ≡ true → takes r s ≡ true
-takes-on r s own on = or-right (has (s .number) r) (both own on)
+takes-on r s own on = or-right (hasNumber (s .number) r) (both own on)
 
 module _ (t : SatBox) (w : Whole t) where
   -- open sessions have different numbers
   pub one-number : (i k : ℕ) → (sessionAt t i .number ≡ 0 → ⊥) → sessionAt t i .number ≡ sessionAt t k .number → i ≡ k
   one-number i k some e =
       let n = sessionAt t i .number in
-      sole (has n) (t .sessions) noSession (ne-eqb 0 n (λ q. some (sym q))) (w .formed .seats .numbers n some) i k (eq-eqb n n refl) (eq-eqb _ n (sym e))
+      sole (hasNumber n) (t .sessions) noSession (ne-eqb 0 n (λ q. some (sym q))) (w .formed .seats .numbers n some) i k (eq-eqb n n refl) (eq-eqb _ n (sym e))
 
   -- and a stream has one owner
   pub one-owner : (id i k : ℕ) → owns id (sessionAt t i) ≡ true → owns id (sessionAt t k) ≡ true → i ≡ k
@@ -131,7 +131,7 @@ module _ (cause i : ℕ) (t : SatBox) (c : Closable t i) (w : Whole t) where
   s = sessionAt t i
 
   -- another has another number
-  apart : (k : ℕ) → (k ≡ i → ⊥) → has (sessionAt t k .number) s ≡ false
+  apart : (k : ℕ) → (k ≡ i → ⊥) → hasNumber (sessionAt t k .number) s ≡ false
   apart k h = ne-eqb (s .number) (sessionAt t k .number) (λ q. h (sym (one-number t w i k (c .some) q)))
 
   -- of one that owns nothing
@@ -236,12 +236,12 @@ pub data Taken (r s : Session) : Type 0 where
   along : owns (r .stream) r ≡ true → isOpen s ≡ true → s .stream ≡ r .stream → Taken r s
 
 pub taken : (r s : Session) → takes r s ≡ true → Taken r s
-taken r s y = by (case (has (s .number) r))
+taken r s y = by (case (hasNumber (s .number) r))
   where
-    by : Case (has (s .number) r) → Taken r s
+    by : Case (hasNumber (s .number) r) → Taken r s
     by (is e) = self (sym (eqb-true (r .number) (s .number) e))
     by (isnt e) =
-        let z = and-both (owns (r .stream) r) _ (or-second (has (s .number) r) _ y e) in
+        let z = and-both (owns (r .stream) r) _ (or-second (hasNumber (s .number) r) _ y e) in
         let on = and-both (isOpen s) _ (z .1) in
         along (z .0) (on .0) (eqb-true (s .stream) (r .stream) (on .1))
 

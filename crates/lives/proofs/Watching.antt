@@ -12,8 +12,8 @@ use Rattle.table.specs.declared.SatBox.{SatBox}
 use Rattle.finding.proofs.Draws.{drawn-nonzero}
 use Rattle.closings.specs.Did.{nothing, restreamed}
 use Rattle.closings.specs.Closing.{sweeping}
-use Rattle.serving.specs.Opening.{hasPlace, guest, seating as seated, canJoin, joining, canOpen, opening}
-use Rattle.serving.specs.Serving.{replaced, answered}
+use Rattle.serving.specs.Opening.{hasPlace, guest, seatingAs as seated, canJoin, joining, canOpen, opening}
+use Rattle.serving.specs.Serving.{withSession, answered}
 use Rattle.satbox.specs.Requests.{requested}
 use Rattle.serving.specs.declared.opening.Client.{Client}
 use Rattle.closings.proofs.Keeping.{Whole}
@@ -43,7 +43,7 @@ opening-watched m client t short w =
     (λ e. watched-nothing t)
 
 -- A SESSION CHANGED in its place, with a query merged or not
-changed-watched : {t u : SatBox} (place : ℕ) (s : Session) → Alike s (sessionAt t place) → Retuned t u → Watched t (nothing (replaced place s u))
+changed-watched : {t u : SatBox} (place : ℕ) (s : Session) → Alike s (sessionAt t place) → Retuned t u → Watched t (nothing (withSession place s u))
 unfolding restreamed
 changed-watched {t} place s k as-it-was h g = watched-quiet (quiet (begun g) (replace place s (k .number) (k .stream) (k .owner)) (agree-replaced t g place s k))
 changed-watched {t} place s k (merged id m e) h g =

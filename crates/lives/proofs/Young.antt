@@ -20,14 +20,14 @@ use Rattle.table.proofs.Counts.{getD-set-all}
 use Rattle.closings.specs.Did.{Did, nothing, restreamed, reseated, noting}
 use Rattle.closings.specs.Does.{Closable}
 use Rattle.closings.specs.Closing.{isExpired, closing, sweeping, atClock}
-use Rattle.serving.specs.Opening.{guest, seating as seated, canJoin, joining, canOpen, opening}
+use Rattle.serving.specs.Opening.{guest, seatingAs as seated, canJoin, joining, canOpen, opening}
 use Rattle.satbox.specs.Calls.{ifDone, tickOutcome, ticked, collectOutcome, collected, emptied}
-use Rattle.serving.specs.Serving.{replaced, answered}
+use Rattle.serving.specs.Serving.{withSession, answered}
 use Rattle.satbox.specs.Requests.{requestOutcome, requested, replied}
 use Rattle.serving.specs.declared.opening.Client.{Client}
 use Rattle.closings.proofs.Keeping.{Whole, clock-whole}
 use Rattle.satbox.proofs.Kept.{sweeping-whole}
-use Rattle.lives.specs.Calls.{lent, Call, request, tick, collect, order, isCall, Life, live, run, Lives, after}
+use Rattle.lives.specs.Calls.{lent, Call, request, tick, collect, order, isCall, Life, live, run, Lives, lifeAfter}
 use Rattle.lives.specs.Closed.{Sweeps, in-request, in-tick}
 use Rattle.lives.proofs.Requests.{Kin, Retuned, retuned-same, answered-holds}
 use Rattle.lives.proofs.Settings.{sweeping-set, requested-set}
@@ -68,8 +68,8 @@ kin-young : (clock : ℕ) (s old : Session) → isExpired clock old ≡ false �
 kin-young clock s old y n (inl e) = rw (n, e) y
 kin-young clock s old y n (inr e) = heard clock s e
 
-changed-young : {t u : SatBox} (place : ℕ) (s : Session) → Young (t .clock) t → Kin (t .clock) s (sessionAt t place) → Retuned t u → Young (t .clock) (replaced place s u)
-unfolding replaced
+changed-young : {t u : SatBox} (place : ℕ) (s : Session) → Young (t .clock) t → Kin (t .clock) s (sessionAt t place) → Retuned t u → Young (t .clock) (withSession place s u)
+unfolding withSession
 changed-young {t} place s y k r =
     let new = kin-young (t .clock) s (sessionAt t place) (y place) (k .alike .number) (k .last) in
     rw (retuned-same r .0) (λ i. getD-set-all (λ (x : Session). isExpired (t .clock) x ≡ false) (t .sessions) place i s noSession new (y i))
@@ -131,6 +131,6 @@ pub run-young : {settings : Settings} (cs : List Call) {x : Life} → all (isCal
 run-young [] e g y = y
 run-young {settings = settings} (c ∷ cs) e g y = let p = and-both (isCall (settings .size) c) _ e in run-young cs (p .1) (live-good g c (p .0)) (live-young g c y)
 
-pub after-young : {settings : Settings} {j : List ℕ} {cs : List Call} → Lives settings j cs → Young (after settings j cs .satbox .clock) (after settings j cs .satbox)
+pub after-young : {settings : Settings} {j : List ℕ} {cs : List Call} → Lives settings j cs → Young (lifeAfter settings j cs .satbox .clock) (lifeAfter settings j cs .satbox)
 after-young {settings} {j} {cs} h =
     run-young cs (h .calls) (born-good settings j (h .sizes) (h .journal)) (λ k. subst (λ (s : Session). isExpired 0 s ≡ false) (sym (free-place 32 k)) refl)

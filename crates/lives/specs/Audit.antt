@@ -8,12 +8,12 @@ use lib.ListN.{length}
 use Rattle.journal.specs.declared.Record.{Record}
 use Rattle.stream.specs.declared.Stream.{Stream}
 use Rattle.table.specs.Counts.{any, count}
-use Rattle.table.specs.Table.{has, streamOf, owns, sessionAt, isOn}
+use Rattle.table.specs.Table.{hasNumber, streamOf, owns, sessionAt, isOn}
 use Rattle.table.specs.declared.SatBox.{SatBox}
 use Rattle.table.specs.declared.Session.{Session}
 use Rattle.closings.specs.Did.{Did, restreamed, noting}
 use Rattle.closings.specs.Closing.{closeOne, atClock}
-use Rattle.serving.specs.Serving.{replaced}
+use Rattle.serving.specs.Serving.{withSession}
 use Rattle.satbox.specs.Calls.{emptied}
 use Rattle.lives.specs.Closed.{saysClosed}
 
@@ -43,7 +43,7 @@ audited f rs = foldl (λ a r. notedBy f r a) unheld rs
 
 -- OF A TABLE: a session with the number n is open and owns a stream that has the frontend f
 abbrev pub holds : SatBox → ℕ → ℕ → Bool
-holds t f n = any (λ s. owns (s .stream) s && (has n s && eqb (streamOf t (s .stream) .frontend) f)) (t .sessions)
+holds t f n = any (λ s. owns (s .stream) s && (hasNumber n s && eqb (streamOf t (s .stream) .frontend) f)) (t .sessions)
 
 -- a history and a table agree: of every frontend and every session they say the same
 pub record Agree (h : List Record) (t : SatBox) : Type 0 where
@@ -56,7 +56,7 @@ pub data Quiet (t : SatBox) : SatBox → Type 0 where
   restream : (id : ℕ) (m : Stream) → count (isOn id) (t .sessions) ≡ 0 → Quiet t (restreamed id m t)
   retune : (id : ℕ) (m : Stream) → m .frontend ≡ streamOf t id .frontend → Quiet t (restreamed id m t)
   replace : (place : ℕ) (s : Session) → s .number ≡ sessionAt t place .number → s .stream ≡ sessionAt t place .stream → s .owner ≡ sessionAt t place .owner
-      → Quiet t (replaced place s t)
+      → Quiet t (withSession place s t)
   empty : Quiet t (emptied t)
 
 -- THE CHANGES THAT WRITE A RECORD: a session with a number comes to a free place of the table, as an owner or as a joiner; and an open session closes

@@ -7,7 +7,7 @@ use lib.Dec.{eqb, ltb}
 use lib.ListN.{length, take}
 use Rattle.scan.specs.Lists.{all}
 use Rattle.journal.specs.declared.Record.{Record}
-use Rattle.table.specs.Made.{numberOf, fresh}
+use Rattle.table.specs.Made.{refusalNumber, fresh}
 use Rattle.table.specs.declared.Settings.{Settings}
 use Rattle.table.specs.declared.SatBox.{SatBox}
 use Rattle.table.specs.declared.Outcome.{Outcome}
@@ -33,14 +33,14 @@ pub data Call : Type 0 where
   collect : (buffer : List ℕ) (journal : Lent) → Call
   order : (frontend : ℕ) → Call
 
--- the bytes that are lent, where the box's own journal is j; and its own after a call that left `after` of them
+-- the bytes that are lent, where the box's own journal is j; and its own after a call that left `lifeAfter` of them
 abbrev pub lent : Lent → List ℕ → List ℕ
 lent own j = j
 lent (other k) j = k
 
 abbrev pub ownAfter : Lent → List ℕ → List ℕ → List ℕ
-ownAfter own j after = after
-ownAfter (other k) j after = j
+ownAfter own j lifeAfter = lifeAfter
+ownAfter (other k) j lifeAfter = j
 
 -- a frontend order, on or off, was done
 abbrev pub orderOutcome : Ordered → Outcome
@@ -51,7 +51,7 @@ orderOutcome (Unordered r) = Refused r
 -- document 01's number of what refused it; 0 where it was done
 abbrev pub refusedBy : Outcome → ℕ
 refusedBy Done = 0
-refusedBy (Refused r) = numberOf r
+refusedBy (Refused r) = refusalNumber r
 
 -- the journal that a call is lent has not length C; a frontend order is lent none
 abbrev pub lacksJournal : ℕ → Call → List ℕ → Bool
@@ -123,5 +123,5 @@ pub record Lives (settings : Settings) (j : List ℕ) (cs : List Call) : Type 0 
   pub calls : all (isCall (settings .size)) cs ≡ true
 
 -- where it has come to from a fresh box with F frontends and journal size C; the journal's first bytes are whatever they are
-abbrev pub after : Settings → List ℕ → List Call → Life
-after settings j cs = run cs (record { outcome = Done; records = []; satbox = fresh settings; journal = j; history = []; since = []; gathered = [] })
+abbrev pub lifeAfter : Settings → List ℕ → List Call → Life
+lifeAfter settings j cs = run cs (record { outcome = Done; records = []; satbox = fresh settings; journal = j; history = []; since = []; gathered = [] })

@@ -11,11 +11,11 @@ use Rattle.lines.specs.Headers.{valuesOf}
 use Rattle.aim.specs.declared.Method.the-variants.{Options, Teardown}
 use Rattle.reader.specs.Fields.{sessionOf}
 use Rattle.reader.specs.Request.{methodOf}
-use Rattle.table.specs.Table.{has, sessionAt, isOn, owns, noSession, streamOf}
+use Rattle.table.specs.Table.{hasNumber, sessionAt, isOn, owns, noSession, streamOf}
 use Rattle.table.specs.declared.Session.{Session}
 use Rattle.table.specs.declared.SatBox.{SatBox}
 use Rattle.table.specs.Counts.{any}
-use Rattle.steps.specs.Sights.{numberOf, placeNamed, sightOf}
+use Rattle.steps.specs.Sights.{sessionNumber, placeNamed, sightOf}
 use Rattle.steps.specs.Cases.{isPassed}
 use Rattle.steps.specs.Asked.{Asked, Lists}
 use Rattle.steps.specs.Steps.{tableCase}
@@ -23,13 +23,13 @@ use Rattle.steps.specs.declared.cases.Case.the-variants.{Passed}
 use Rattle.closings.specs.Did.{recordOf}
 use Rattle.closings.specs.Closing.{isExpired, sweeping}
 use Rattle.serving.specs.Opening.{hasPlace, hasFrontend}
-use Rattle.serving.specs.Serving.{feedOf, merging, merges, isClash, isTooMany, opens}
+use Rattle.serving.specs.Serving.{feedOf, merging, merges, isClash, isTooMany, isOpening}
 use Rattle.satbox.specs.Requests.{requested}
 use Rattle.lives.specs.Calls.{Lent, Call, request, tick}
 
 -- the session r, where it closes, takes the session s along: s is r, or is on the stream that r owns
 abbrev pub takes : Session → Session → Bool
-takes r s = has (s .number) r || (owns (r .stream) r && isOn (r .stream) s)
+takes r s = hasNumber (s .number) r || (owns (r .stream) r && isOn (r .stream) s)
 
 -- the visit of a sweep at which a session closes, "in rising order": the first place whose session has expired and takes it along; 32 where it stays open
 unfoldable pub visitOf : SatBox → Session → ℕ
@@ -91,7 +91,7 @@ placeNamedBy s t = placeNamed (sessionOf (valuesOf 1 (headerLines s))) t
 
 -- a call is an OPTIONS whose Session header has the number n
 pub data KeepsAlive (n : ℕ) : Call → Type 0 where
-  in-options : {s : List ℕ} {clock address draw : ℕ} {b : List ℕ} {l : Lent} → methodOf s ≡ Options → numberOf (sessionOf (valuesOf 1 (headerLines s))) ≡ n
+  in-options : {s : List ℕ} {clock address draw : ℕ} {b : List ℕ} {l : Lent} → methodOf s ≡ Options → sessionNumber (sessionOf (valuesOf 1 (headerLines s))) ≡ n
       → KeepsAlive n (request s clock address draw b l)
 
 -- a call is "a request or a tick", given a clock: it "first closes expired sessions"
@@ -121,7 +121,7 @@ pub data Ends (t : SatBox) (i : ℕ) : Call → Type 0 where
 -- a request that steps 1 to 10 let through asks a and gives the PIDs l; the box t was swept. It is a SETUP without a session that steps 11 to 17 let
 -- through, and of step 18 there is a free session place and, for a new stream, not "fe is held, or with no fe and no frontend free"
 pub record PassesElse (t : SatBox) (a : Asked) (l : Lists) : Type 0 where
-  pub opening : opens (sightOf t a) ≡ true
+  pub opening : isOpening (sightOf t a) ≡ true
   pub seen : tableCase (sightOf t a) ≡ Passed
   pub combination : merges (sightOf t a) && isClash (merging t a l .outcome) ≡ false
   pub pids : merges (sightOf t a) && isTooMany (merging t a l .outcome) ≡ false

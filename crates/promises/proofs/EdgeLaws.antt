@@ -12,14 +12,14 @@ use Rattle.scan.proofs.Bools.{Case as Test, case, is, isnt, Same, sames, same, 
 use Rattle.target.specs.Uri.{hasQuery, queryOf}
 use Rattle.tuning.specs.Values.{valueOf}
 use Rattle.aim.specs.Query.{partsOf, attributeIn, areWithin}
-use Rattle.aim.specs.Found.{codeAmong, valueIn, isWithin}
+use Rattle.aim.specs.Found.{codeAmong, partValue, isWithin}
 use Rattle.aim.specs.Aim.{uriRefusal}
-use Rattle.refusals.specs.Refusals.{isPassed}
+use Rattle.refusals.specs.Refusals.{isRead}
 use Rattle.refusals.specs.declared.Refusal.{Refusal}
 use Rattle.refusals.specs.declared.Refusal.the-variants.{Passed}
 use Rattle.reader.specs.Request.{uriOf, requestRefusal}
 use Rattle.table.specs.Counts.{any}
-use Rattle.table.specs.Table.{has}
+use Rattle.table.specs.Table.{hasNumber}
 use Rattle.finding.specs.Finding.{isTaken, nextNumber, drawnFrom, drawn}
 use Rattle.table.specs.declared.Session.{Session}
 use Rattle.table.specs.declared.SatBox.{SatBox}
@@ -46,14 +46,14 @@ drawnFrom-first (suc more) l n h m a b = by (case (isTaken l n)) (sames n m) (dr
     by (is y) (other q) next = next m (omega (arith, a, q, h)) (rw y at b)
 
 -- from 4294967295 the draw goes on to 0, which is no number, and then to 1
-module _ (l : List Session) (e : any (has 0xFFFFFFFF) l ≡ true) where
+module _ (l : List Session) (e : any (hasNumber 0xFFFFFFFF) l ≡ true) where
   drawn-round : drawn l 0xFFFFFFFF ≡ drawnFrom 32 l 1
   unfolding drawn
   drawn-round = ap (λ taken. cond taken (drawnFrom 32 l 1) 0xFFFFFFFF) e
 
-  pub drawn-first : (n : ℕ) → 1 ≤ n → n < drawn l 0xFFFFFFFF → any (has n) l ≡ true
+  pub drawn-first : (n : ℕ) → 1 ≤ n → n < drawn l 0xFFFFFFFF → any (hasNumber n) l ≡ true
   drawn-first n a b =
-      or-second (eqb n 0) (any (has n) l)
+      or-second (eqb n 0) (any (hasNumber n) l)
       (drawnFrom-first 32 l 1 (omega arith) n a (subst (λ k. n < k) drawn-round b))
       (ne-eqb n 0 (λ z. omega (arith, z, a)))
 
@@ -73,7 +73,7 @@ module _ (frontends : ℕ) where
   within-alike [] e = refl
   within-alike (p ∷ ps) e =
       let z = and-both (isNoFe p) (all isNoFe ps) e in
-      rw (value-alike (attributeIn p) (valueIn p) (not-true _ (z .0)), within-alike ps (z .1))
+      rw (value-alike (attributeIn p) (partValue p) (not-true _ (z .0)), within-alike ps (z .1))
 
   code-alike : (a : ℕ) (ps : List (List ℕ)) → all isNoFe ps ≡ true → codeAmong frontends a ps ≡ codeAmong 2 a ps
   code-alike a [] e = refl
@@ -83,7 +83,7 @@ module _ (frontends : ℕ) where
     where
       by : eqb (attributeIn p) 1 ≡ false → Test (eqb (attributeIn p) a) → codeAmong frontends a ps ≡ codeAmong 2 a ps
           → codeAmong frontends a (p ∷ ps) ≡ codeAmong 2 a (p ∷ ps)
-      by z (is y) rest = rw (y, value-alike a (valueIn p) (subst (λ k. eqb k 1 ≡ false) (eqb-true (attributeIn p) a y) z))
+      by z (is y) rest = rw (y, value-alike a (partValue p) (subst (λ k. eqb k 1 ≡ false) (eqb-true (attributeIn p) a y) z))
       by z (isnt n) rest = rw (n, rest)
 
   module _ (s : List ℕ) (e : givesNoFe s ≡ true) where
@@ -105,7 +105,7 @@ module _ (frontends : ℕ) where
 pub record RefusedAs (s : List ℕ) (r : Refusal) : Type 0 where
   pub no-fe : givesNoFe s ≡ true
   pub refusal : requestRefusal 2 s ≡ r
-  pub refuses : isPassed r ≡ false
+  pub refuses : isRead r ≡ false
 
 -- or what it asks
 pub record ReadsAs (s : List ℕ) (a : Asked) (l : Lists) : Type 0 where

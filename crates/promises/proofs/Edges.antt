@@ -13,7 +13,7 @@ use Rattle.digits.specs.Reading.{readNumber, readHex8}
 use Rattle.writing.specs.Writing.{decimal, hex8, dotted, width, numeral, written}
 use Rattle.lines.specs.Lines.{isLaidOut, requestLine, headerLines}
 use Rattle.tuning.specs.Values.{attributeOf, valueOf, frequency, arePids}
-use Rattle.target.specs.Uri.{isUri, streamIn}
+use Rattle.target.specs.Uri.{isUri, streamOfPath}
 use Rattle.aim.specs.Query.{isQuery, areWithin, attributeIn, codeOf, textOf}
 use Rattle.aim.specs.Aim.{uriRefusal}
 use Rattle.aim.specs.declared.Method.the-variants.{Setup}
@@ -31,8 +31,8 @@ use Rattle.stream.specs.Streams.{noStream, areZero, isSound}
 use Rattle.stream.specs.Merging.{changed, mergeOf}
 use Rattle.stream.specs.declared.Stream.{Stream}
 use Rattle.table.specs.Counts.{any}
-use Rattle.table.specs.Table.{noSession, has, isOpen, opens}
-use Rattle.table.specs.Formed.{isSeated, isEmpty, wellFormed}
+use Rattle.table.specs.Table.{noSession, hasNumber, isOpen, openCount}
+use Rattle.table.specs.Formed.{isSeated, isBlank, wellFormed}
 use Rattle.finding.specs.Finding.{drawnFrom, lowestFrontend, drawn}
 use Rattle.table.specs.Made.{settingsOf}
 use Rattle.table.specs.declared.Session.{Session}
@@ -42,14 +42,14 @@ use Rattle.finding.proofs.Draws.{drawn-new, drawn-nonzero}
 use Rattle.answer.specs.Lines.{reasonOf}
 use Rattle.steps.specs.Asked.{Asked, Lists, codesIn}
 use Rattle.steps.specs.Sights.{sightOf}
-use Rattle.steps.specs.Steps.{lacksSession, isDead, isOutOfState, isAnothers, lacksPort, tableCase}
+use Rattle.steps.specs.Steps.{lacksSession, namesDead, isOutOfState, isAnothers, lacksPort, tableCase}
 use Rattle.steps.specs.Replies.{replyText}
 use Rattle.steps.specs.declared.cases.Case.{Case}
 use Rattle.steps.specs.declared.cases.Case.the-variants.{Reading, Transport, TooManyPids}
 use Rattle.closings.specs.Did.{nothing, upto, restreamed, reseated, noting, bytesOf}
 use Rattle.closings.specs.Closing.{isExpired, closeOne, closeOn, cascade, closing, sweepAt, swept, atClock, sweeping}
-use Rattle.serving.specs.Opening.{seating, joining, opening}
-use Rattle.serving.specs.Serving.{merging, changeCase, caseOf, replaced, served, answered}
+use Rattle.serving.specs.Opening.{seatingAs, joining, opening}
+use Rattle.serving.specs.Serving.{merging, changeCase, caseOf, withSession, served, answered}
 use Rattle.satbox.specs.Requests.{requested, answerOf, requestOutcome, repliedInto, repliedJournal}
 use Rattle.serving.specs.declared.opening.Client.{Client}
 use Rattle.promises.proofs.Asks.{example, exampleAnswer, setupAt, setup, join, play, teardown, box, home, verdictOf, verdict, passes, ask, run, after}
@@ -57,7 +57,7 @@ use Rattle.promises.proofs.EdgeLaws.{drawn-first, RefusedAs, ReadsAs, r
 
 -- Named on a proof's `unfolding` line, these let meanings be worked out there: of reading, of lists of PIDs, of serving; and all of them
 unfoldable pub reading : ℕ
-unfolding requestRefusal headRefusal cseqOf cseqFrom isLaidOut requestLine headerLines methodIn uriRefusal isUri streamIn isQuery areWithin attributeIn attributeOf valueOf frequency arePids placeAmong readNumber readHex8 codesIn codeOf textOf sessionOf sessionIn transportOf
+unfolding requestRefusal headRefusal cseqOf cseqFrom isLaidOut requestLine headerLines methodIn uriRefusal isUri streamOfPath isQuery areWithin attributeIn attributeOf valueOf frequency arePids placeAmong readNumber readHex8 codesIn codeOf textOf sessionOf sessionIn transportOf
 reading = 0
 
 unfoldable pub listing : ℕ
@@ -65,11 +65,11 @@ unfolding listed numbersIn readNumber
 listing = 0
 
 unfoldable pub serving : ℕ
-unfolding requested answered served caseOf changeCase merging replaced joining opening seating closeOne closeOn cascade closing sweepAt swept atClock upto restreamed reseated noting tableCase lacksSession isDead isOutOfState isAnothers lacksPort sightOf drawn lowestFrontend mergeOf changed chosen goTogether merged
+unfolding requested answered served caseOf changeCase merging withSession joining opening seatingAs closeOne closeOn cascade closing sweepAt swept atClock upto restreamed reseated noting tableCase lacksSession namesDead isOutOfState isAnothers lacksPort sightOf drawn lowestFrontend mergeOf changed chosen goTogether merged
 serving = 0
 
 unfoldable pub meanings : ℕ
-unfolding reading listing serving answerOf replyText reasonOf decimal hex8 dotted width numeral encoded repliedInto repliedJournal written wellFormed isSeated isEmpty isSound areZero areNone areInRange isChoice
+unfolding reading listing serving answerOf replyText reasonOf decimal hex8 dotted width numeral encoded repliedInto repliedJournal written wellFormed isSeated isBlank isSound areZero areNone areInRange isChoice
 meanings = 0
 
 -- a request's verdict is the same on every box, at every clock, from every address and with every draw
@@ -86,7 +86,7 @@ module _ {s : List ℕ} {a : Asked} {l : Lists} {c : Case} where
 
 -- a session with that number is open
 abbrev isUsed : List Session → ℕ → Bool
-isUsed l n = any (has n) l
+isUsed l n = any (hasNumber n) l
 
 -- P1: "empty request: 400, no CSeq." On every box.
 abbrev pub P1 : Type 0
@@ -107,7 +107,7 @@ pub record P2 : Type 0 where
   pub young : (s : Session) → isExpired (s .last + 59) s ≡ false
   pub old : (s : Session) → isOpen s ≡ true → isExpired (s .last + 60) s ≡ true
   pub stays : sweeping 1059 opened ≡ nothing (atClock 1059 opened)
-  pub closes : opens (sweeping 1060 opened .satbox) ≡ 0
+  pub closes : openCount (sweeping 1060 opened .satbox) ≡ 0
   pub noted : sweeping 1060 opened .records ≡ timedOut ∷ []
 
 pub p2 : P2
@@ -274,8 +274,8 @@ full = after 1 (rounds 32) box
 
 pub record P9 : Type 0 where
   pub passed : map verdict (run 1 (rounds 32) box) ≡ replicate 64 passes
-  pub before : (lastOpened .held ≡ 1008) × (opens lastOpened ≡ 1)
-  pub closed : (full .held ≡ 1024) × (opens full ≡ 0)
+  pub before : (lastOpened .held ≡ 1008) × (openCount lastOpened ≡ 1)
+  pub closed : (full .held ≡ 1024) × (openCount full ≡ 0)
   pub formed : wellFormed full ≡ true
   pub refused : verdict (ask example full) ≡ (18, 503)
 

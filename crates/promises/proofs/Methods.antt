@@ -30,8 +30,8 @@ use Rattle.steps.specs.Cases.{isPassed}
 use Rattle.steps.specs.Steps.{looksUp, isNamed}
 use Rattle.closings.specs.Did.{restreamed, reseated, noting}
 use Rattle.closings.specs.Closing.{closeOne, closing}
-use Rattle.serving.specs.Opening.{hasPlace, seating, joining, canOpen, opening}
-use Rattle.serving.specs.Serving.{merging, takesQuery, merges, replaced, after, retuned, Serving, grant, clientOf, answered}
+use Rattle.serving.specs.Opening.{hasPlace, seatingAs, joining, canOpen, opening}
+use Rattle.serving.specs.Serving.{merging, takesQuery, merges, withSession, seatAfter, retuned, Serving, grant, clientOf, answered}
 use Rattle.serving.specs.declared.opening.Client.{Client}
 use Rattle.closings.proofs.Closings.{closing-fine}
 use Rattle.closings.proofs.Keeping.{Whole, live-id, owner-sessions, owner-streams}
@@ -141,12 +141,12 @@ settled-same a b = record { settings = a; clock = b }
 
 -- A SESSION CHANGED IN ITS PLACE, with its stream or without
 module _ (t : SatBox) (w : Whole t) {place : ℕ} (h : place < 32) (s : Session) (id : ℕ) where
-  replaced-quietly : Quietly t (replaced place s t) place s id (streamOf t id)
-  unfolding replaced
+  replaced-quietly : Quietly t (withSession place s t) place s id (streamOf t id)
+  unfolding withSession
   replaced-quietly = record { changes = changes-one w h refl (settled-same refl refl) refl id; held = refl; sequence = refl }
 
-  retuned-quietly : (streamOf t id .frontend ≡ 0 → ⊥) → (m : Stream) (b : Bool) → Quietly t (replaced place s (cond (not b) (restreamed id m t) t)) place s id (cond b (streamOf t id) m)
-  unfolding replaced restreamed
+  retuned-quietly : (streamOf t id .frontend ≡ 0 → ⊥) → (m : Stream) (b : Bool) → Quietly t (withSession place s (cond (not b) (restreamed id m t) t)) place s id (cond b (streamOf t id) m)
+  unfolding withSession restreamed
   retuned-quietly live m true = replaced-quietly
   retuned-quietly live m false =
       record { changes = changes-both w h refl (settled-same refl refl) id m refl (stream-same id m (t .streams) live); held = refl; sequence = refl }
@@ -199,10 +199,10 @@ module _ (t : SatBox) (a : Asked) (l : Lists) (client : Client) (w : Whole t) (t
       ap (λ b. cond b (restreamed (a .stream) (merging t a l .stream) t) t) merges-owner
       ∙ ap₂ (λ k (c : Change). cond (not (eqb (now .owner) 0)) (restreamed k (c .stream) t) t) own merging-own
 
-  retuning-quietly : {s : Session} → after (sightOf t a) ≡ s → Quietly t (replaced at (after (sightOf t a)) (retuned t a l)) at s (now .stream) (tuned t a l now)
+  retuning-quietly : {s : Session} → seatAfter (sightOf t a) ≡ s → Quietly t (withSession at (seatAfter (sightOf t a)) (retuned t a l)) at s (now .stream) (tuned t a l now)
   retuning-quietly is =
-      subst (λ s. Quietly t (replaced at (after (sightOf t a)) (retuned t a l)) at s (now .stream) (tuned t a l now)) is
-      (rw retuned-is (retuned-quietly t w h (after (sightOf t a)) (now .stream) live (queried (streamOf t (now .stream)) a l) (eqb (now .owner) 0)))
+      subst (λ s. Quietly t (withSession at (seatAfter (sightOf t a)) (retuned t a l)) at s (now .stream) (tuned t a l now)) is
+      (rw retuned-is (retuned-quietly t w h (seatAfter (sightOf t a)) (now .stream) live (queried (streamOf t (now .stream)) a l) (eqb (now .owner) 0)))
 
 -- THE METHODS
 module _ (s : List ℕ) (address draw : ℕ) (t : SatBox) where
@@ -275,7 +275,7 @@ module _ (s : List ℕ) (address draw : ℕ) (t : SatBox) where
       -- it joins the stream that it names, never owning it, and that stays;
       pub setup-joins : (a .stream ≡ 0 → ⊥)
           → Changes t u (lowestPlace (t .sessions)) (newcomer address draw (portOf (a .transport)) (a .stream) 0 t) (a .stream) (streamOf t (a .stream))
-      unfolding joining seating noting reseated
+      unfolding joining seatingAs noting reseated
       setup-joins some =
           let y = can-join t a l changing setup unnamed some in
           rw (does setup, unnamed, ne-eqb (a .stream) 0 some, y) (changes-one w (placed _ y) refl (settled-same refl refl) refl (a .stream))
@@ -283,7 +283,7 @@ module _ (s : List ℕ) (address draw : ℕ) (t : SatBox) where
       -- or it owns a new one, with the lowest free ID
       pub setup-opens : a .stream ≡ 0
           → Changes t u (lowestPlace (t .sessions)) (newcomer address draw (portOf (a .transport)) (lowestId (t .streams)) 1 t) (lowestId (t .streams)) (queried (blank (feed t a)) a l)
-      unfolding opening seating noting reseated restreamed sightOf
+      unfolding opening seatingAs noting reseated restreamed sightOf
       setup-opens none =
           let client = clientOf address draw a in
           let id = lowestId (t .streams) in

@@ -18,7 +18,7 @@ use Rattle.steps.specs.declared.cases.Case.the-variants.{Passed, Combination, T
 use Rattle.steps.proofs.ReplyLaws.{unread-passed, table-unread}
 use Rattle.closings.specs.Does.{Closable}
 use Rattle.serving.specs.Opening.{canJoin, canOpen}
-use Rattle.serving.specs.Serving.{feedOf, merging, merges, isClash, isTooMany, opens, canSeat, changeCase, caseOf, Serving, grant, denied, served}
+use Rattle.serving.specs.Serving.{feedOf, merging, merges, isClash, isTooMany, isOpening, canSeat, changeCase, caseOf, Serving, grant, denied, served}
 use Rattle.serving.specs.declared.opening.Client.{Client}
 use Rattle.closings.proofs.Keeping.{Whole}
 use Rattle.serving.proofs.Passing.{chain, Untested, untested, named-needed, named-closable}
@@ -28,14 +28,14 @@ use Rattle.satbox.proofs.RequestLaws.{case-unread}
 pub record Changing (t : SatBox) (a : Asked) (l : Lists) : Type 0 where
   pub clash : merges (sightOf t a) && isClash (merging t a l .outcome) ≡ false
   pub many : merges (sightOf t a) && isTooMany (merging t a l .outcome) ≡ false
-  pub seat : opens (sightOf t a) && not (canSeat t (sightOf t a)) ≡ false
+  pub seat : isOpening (sightOf t a) && not (canSeat t (sightOf t a)) ≡ false
 
 changing : (t : SatBox) (a : Asked) (l : Lists) → changeCase t a l ≡ Passed → Changing t a l
 unfolding changeCase
 changing t a l e =
     let c = chain (merges (sightOf t a) && isClash (merging t a l .outcome)) Combination _ refl e in
     let m = chain (merges (sightOf t a) && isTooMany (merging t a l .outcome)) TooManyPids _ refl (c .1) in
-    let s = chain (opens (sightOf t a) && not (canSeat t (sightOf t a))) Full Passed refl (m .1) in
+    let s = chain (isOpening (sightOf t a) && not (canSeat t (sightOf t a))) Full Passed refl (m .1) in
     record { clash = c .0; many = m .0; seat = s .0 }
 
 -- ALL OF THEM
@@ -87,8 +87,8 @@ module _ (t : SatBox) (a : Asked) (l : Lists) (p : Changing t a l) where
       merged-only (merging t a l .outcome) (and-other (merges (sightOf t a)) _ (p .clash) e) (and-other (merges (sightOf t a)) _ (p .many) e)
 
   -- 18: an opening has all that it takes
-  through-seat : opens (sightOf t a) ≡ true → canSeat t (sightOf t a) ≡ true
-  through-seat e = not-false _ (and-other (opens (sightOf t a)) _ (p .seat) e)
+  through-seat : isOpening (sightOf t a) ≡ true → canSeat t (sightOf t a) ≡ true
+  through-seat e = not-false _ (and-other (isOpening (sightOf t a)) _ (p .seat) e)
 
   -- A SETUP WITHOUT A SESSION
   module _ (setup : a .method ≡ Setup) (stranger : isNamed (sightOf t a) ≡ false) where

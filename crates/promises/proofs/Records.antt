@@ -25,7 +25,7 @@ use Rattle.steps.specs.Cases.{isPassed}
 use Rattle.steps.specs.Steps.{isNamed}
 use Rattle.closings.specs.Did.{Did, nothing, restreamed, noting, recordOf}
 use Rattle.closings.specs.Closing.{closing, sweeping}
-use Rattle.serving.specs.Opening.{guest, seating, joining, opening}
+use Rattle.serving.specs.Opening.{guest, seatingAs, joining, opening}
 use Rattle.serving.specs.Serving.{merging, Serving, granted, grant, served, clientOf, answered}
 use Rattle.satbox.specs.Requests.{requested}
 use Rattle.serving.specs.declared.opening.Client.{Client}
@@ -100,7 +100,7 @@ module _ (t : SatBox) (a : Asked) (l : Lists) (client : Client) where
         joined-is = granted-is Setup setup passed ∙ rw (stranger, ne-eqb (a .stream) 0 some)
 
         pub joined-records : served t a l client .did .records ≡ opensAs 2 (served t a l client .session) (streamOf t (a .stream) .frontend) t ∷ []
-        unfolding joining seating noting
+        unfolding joining seatingAs noting
         joined-records = rw (joined-is, can-join t a l changing setup stranger some)
 
       -- ONE OF KIND 1, "opened as owner", where it names none: with the frontend that the new stream takes
@@ -109,7 +109,7 @@ module _ (t : SatBox) (a : Asked) (l : Lists) (client : Client) where
         opened-is = granted-is Setup setup passed ∙ rw (stranger, eq-eqb (a .stream) 0 none)
 
         pub opened-records : Whole t → served t a l client .did .records ≡ opensAs 1 (served t a l client .session) (feed t a) t ∷ []
-        unfolding opening seating noting restreamed sightOf
+        unfolding opening seatingAs noting restreamed sightOf
         opened-records w =
             let m = merging t a l .stream in
             let f : m .frontend ≡ feed t a = merging-feed t a l client (sightOf t a) refl none in

@@ -24,10 +24,10 @@ use Rattle.promises.proofs.Serving.{Fit, served-whole, denied-still}
 -- what holds where steps 1 to 10 let a request through, and where one of them refuses it, holds of every request
 pub answered-by : (s : List ℕ) (address draw : ℕ) (t : SatBox) (P : Serving → Type 0)
     → (requestRefusal (t .settings .frontends) s ≡ refusal.Passed → P (served t (askedOf (t .settings .frontends) s) (listsOf s) (clientOf address draw (askedOf (t .settings .frontends) s))))
-    → (reading.isPassed (requestRefusal (t .settings .frontends) s) ≡ false → P (denied t (Reading (requestRefusal (t .settings .frontends) s)))) → P (answered s address draw t)
+    → (reading.isRead (requestRefusal (t .settings .frontends) s) ≡ false → P (denied t (Reading (requestRefusal (t .settings .frontends) s)))) → P (answered s address draw t)
 unfolding answered
 answered-by s address draw t P f g =
-    cond-keeps P (reading.isPassed (requestRefusal (t .settings .frontends) s)) _ _ (λ e. f (passed-is (requestRefusal (t .settings .frontends) s) e)) g
+    cond-keeps P (reading.isRead (requestRefusal (t .settings .frontends) s)) _ _ (λ e. f (passed-is (requestRefusal (t .settings .frontends) s) e)) g
 
 -- what steps 1 to 10 let through has values and a port as a table may hold them; proved in `Reading`
 abbrev pub Reads : Type 0

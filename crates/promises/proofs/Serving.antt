@@ -30,7 +30,7 @@ use Rattle.steps.specs.Sights.{portOf, sightOf}
 use Rattle.steps.specs.Steps.{isSetup, looksUp, isNamed}
 use Rattle.steps.specs.Cases.{isPassed}
 use Rattle.closings.specs.Did.{Did, nothing, restreamed}
-use Rattle.serving.specs.Serving.{merging, merges, replaced, refreshed, atPort, playing, after, Serving, keeping, retuning, seating, grant, served}
+use Rattle.serving.specs.Serving.{merging, merges, withSession, refreshed, atPort, playing, seatAfter, Serving, keeping, retuning, seating, grant, served}
 use Rattle.serving.specs.declared.opening.Client.{Client}
 use Rattle.closings.proofs.Keeping.{Whole, closing-whole}
 use Rattle.satbox.proofs.Kept.{merged-whole}
@@ -47,8 +47,8 @@ pub record Alike (s u : Session) : Type 0 where
   pub owner : s .owner ≡ u .owner
 
 -- A SESSION IS CHANGED in its place: the table stays well formed (`Whole`)
-pub replaced-whole : (place : ℕ) (s : Session) (t : SatBox) → Whole t → Alike s (sessionAt t place) → isProper (t .clock) s ≡ true → Whole (replaced place s t)
-unfolding replaced
+pub replaced-whole : (place : ℕ) (s : Session) (t : SatBox) → Whole t → Alike s (sessionAt t place) → isProper (t .clock) s ≡ true → Whole (withSession place s t)
+unfolding withSession
 replaced-whole place s t w k good =
     let n = count-set-same isOpen (t .sessions) place s noSession (rw (k .number)) in
     record {
@@ -93,7 +93,7 @@ module _ (place : ℕ) (t : SatBox) (w : Whole t) (some : sessionAt t place .num
   values = seated (t .clock) (sessionAt t place) some (w .formed .proper place)
 
   -- an OPTIONS sets "the last time to the clock"
-  pub refreshed-whole : Whole (replaced place (refreshed (t .clock) (sessionAt t place)) t)
+  pub refreshed-whole : Whole (withSession place (refreshed (t .clock) (sessionAt t place)) t)
   refreshed-whole =
       let s = refreshed (t .clock) (sessionAt t place) in
       replaced-whole place s t w (record { number = refl; stream = refl; owner = refl })
@@ -101,14 +101,14 @@ module _ (place : ℕ) (t : SatBox) (w : Whole t) (some : sessionAt t place .num
       (record { port = values .port; owner = values .owner; playing = values .playing; last = le-leb (t .clock) (t .clock) (omega arith) }))
 
   -- "SETUP in a session replaces only the port"
-  pub ported-whole : (port : ℕ) → isPort port ≡ true → Whole (replaced place (atPort port (sessionAt t place)) t)
+  pub ported-whole : (port : ℕ) → isPort port ≡ true → Whole (withSession place (atPort port (sessionAt t place)) t)
   ported-whole port h =
       let s = atPort port (sessionAt t place) in
       replaced-whole place s t w (record { number = refl; stream = refl; owner = refl })
       (proper (t .clock) s some (record { port = h; owner = values .owner; playing = values .playing; last = values .last }))
 
   -- PLAY "marks the session playing"
-  pub played-whole : Whole (replaced place (playing (sessionAt t place)) t)
+  pub played-whole : Whole (withSession place (playing (sessionAt t place)) t)
   played-whole =
       let s = playing (sessionAt t place) in
       replaced-whole place s t w (record { number = refl; stream = refl; owner = refl })
@@ -157,18 +157,18 @@ module _ (t : SatBox) (a : Asked) (l : Lists) (client : Client) (w : Whole t) (f
         rw is-merging (merged-whole (a .stream) (a .codes) (l .pids) (l .delpids) (l .addpids) t w live (fit .codes) o)
 
     -- and the session is changed in its place, where nothing else was
-    changed-whole : (u : SatBox) → Whole u → sessionAt u (sightOf t a .place) ≡ sightOf t a .session → Whole (replaced (sightOf t a .place) (after (sightOf t a)) u)
+    changed-whole : (u : SatBox) → Whole u → sessionAt u (sightOf t a .place) ≡ sightOf t a .session → Whole (withSession (sightOf t a .place) (seatAfter (sightOf t a)) u)
     changed-whole u v e =
         let place = sightOf t a .place in
         let there : sessionAt u place .number ≡ 0 → ⊥ = λ z. open-named named (ap (λ (s : Session). s .number) (sym e) ∙ z) in
-        cond-keeps (λ (s : Session). Whole (replaced place s u)) (isSetup (sightOf t a .method)) _ _
-        (λ setup. subst (λ (s : Session). Whole (replaced place (atPort (sightOf t a .port) s) u)) e (ported-whole place u v there (sightOf t a .port) (set-port setup)))
-        (λ other. subst (λ (s : Session). Whole (replaced place (playing s) u)) e (played-whole place u v there))
+        cond-keeps (λ (s : Session). Whole (withSession place s u)) (isSetup (sightOf t a .method)) _ _
+        (λ setup. subst (λ (s : Session). Whole (withSession place (atPort (sightOf t a .port) s) u)) e (ported-whole place u v there (sightOf t a .port) (set-port setup)))
+        (λ other. subst (λ (s : Session). Whole (withSession place (playing s) u)) e (played-whole place u v there))
 
     retuning-whole : Whole (retuning t a l .did .satbox)
     unfolding sightOf restreamed
     retuning-whole =
-        cond-keeps (λ (u : SatBox). Whole (replaced (sightOf t a .place) (after (sightOf t a)) u)) (merges (sightOf t a)) _ t
+        cond-keeps (λ (u : SatBox). Whole (withSession (sightOf t a .place) (seatAfter (sightOf t a)) u)) (merges (sightOf t a)) _ t
         (λ e. changed-whole (restreamed (a .stream) (merging t a l .stream) t) (retuned-whole e) refl) (λ e. changed-whole t w refl)
 
   module _ (port : client .port ≡ portOf (a .transport)) (draw : client .draw < 4294967296) where

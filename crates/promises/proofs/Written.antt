@@ -20,8 +20,8 @@ use Rattle.steps.specs.Steps.{isNamed}
 use Rattle.closings.specs.Did.{Did, nothing, then, restreamed, reseated, noting}
 use Rattle.closings.specs.Does.{Closable}
 use Rattle.closings.specs.Closing.{closing, sweeping, atClock}
-use Rattle.serving.specs.Opening.{guest, seating as seated, canJoin, joining, canOpen, opening}
-use Rattle.serving.specs.Serving.{merging, merges, replaced, after, Serving, retuning, seating, grant, served, clientOf, answered}
+use Rattle.serving.specs.Opening.{guest, seatingAs as seated, canJoin, joining, canOpen, opening}
+use Rattle.serving.specs.Serving.{merging, merges, withSession, seatAfter, Serving, retuning, seating, grant, served, clientOf, answered}
 use Rattle.satbox.specs.Requests.{requested}
 use Rattle.serving.specs.declared.opening.Client.{Client}
 use Rattle.closings.proofs.Closings.{closing-fine, swept-fine}
@@ -77,13 +77,13 @@ sweeping-counted clock t w =
 
 module _ (t : SatBox) (a : Asked) (l : Lists) (client : Client) (w : Whole t) where
   retuning-counted : Counted t (retuning t a l .did)
-  unfolding replaced restreamed
+  unfolding withSession restreamed
   retuning-counted =
-      cond-keeps (λ (u : SatBox). Counted t (nothing (replaced (sightOf t a .place) (after (sightOf t a)) u))) (merges (sightOf t a)) (restreamed (a .stream) (merging t a l .stream) t) t
+      cond-keeps (λ (u : SatBox). Counted t (nothing (withSession (sightOf t a .place) (seatAfter (sightOf t a)) u))) (merges (sightOf t a)) (restreamed (a .stream) (merging t a l .stream) t) t
       (λ e. quiet-counted t _ refl refl) (λ e. quiet-counted t _ refl refl)
 
   grant-counted : Untested (sightOf t a) → (m : Method) → a .method ≡ m → Counted t (grant m t a l client .did)
-  unfolding sightOf replaced
+  unfolding sightOf withSession
   grant-counted p Options e =
       cond-keeps (Counted t) (isNamed (sightOf t a)) _ (nothing t) (λ h. quiet-counted t _ refl refl) (λ h. quiet-counted t t refl refl)
   grant-counted p Setup e =

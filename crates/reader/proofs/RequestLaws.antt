@@ -29,9 +29,9 @@ use Rattle.target.specs.Line.{isThree, linePart}
 use Rattle.target.specs.Steps.{PartsAre}
 use Rattle.target.specs.declared.Parts.{Parts}
 use Rattle.reader.specs.Fields.{cseqFrom, sessionOf, sessionIn, transportOf}
-use Rattle.reader.specs.Heads.{textAt, cseqAt, sessionAt, areTwice, Begun, Headed, Passing, uriStart, refusedRequest, RequestIs, isOther, isVersion}
+use Rattle.reader.specs.Heads.{headText, cseqAt, sessionSeen, areTwice, Begun, Headed, Passing, uriStart, refusedRequest, RequestIs, isOther, isVersion}
 use Rattle.aim.specs.Query.{nowhere}
-use Rattle.refusals.specs.Refusals.{_refuses_or_, stepOf, isPassed}
+use Rattle.refusals.specs.Refusals.{_refuses_or_, readingStep, isRead}
 use Rattle.reader.specs.Request.{methodIn, cseqOf, isTwice, methodOf, uriOf, headRefusal, requestRefusal}
 use Rattle.aim.specs.Found.{AimIs}
 use Rattle.refusals.specs.declared.Refusal.{Refusal}
@@ -52,7 +52,7 @@ capped P (suc zero) a b c = b
 capped P (suc (suc n)) a b c = let e : min (suc (suc n)) 2 ≡ 2 = omega arith in rw e (c (suc (suc n)) (omega arith))
 
 module _ {s : List ℕ} {vs : List (List ℕ)} {seen : Seen} (i : SeenIs s vs seen) where
-  pub seen-text : textAt s seen ≡ firstValue vs
+  pub seen-text : headText s seen ≡ firstValue vs
   seen-text = i .value .is
 
   pub seen-cseq : cseqAt s seen ≡ cseqFrom vs
@@ -62,7 +62,7 @@ module _ {s : List ℕ} {vs : List (List ℕ)} {seen : Seen} (i : SeenIs s vs se
       (capped (λ k n. cond (eqb k 1) (readNumber Allowed 10 4294967295 (firstValue vs)) Nothing ≡ cond (eqb n 1) (readNumber Allowed 10 4294967295 (firstValue vs)) Nothing) (length vs) refl refl
       (λ m h. rw (ne-eqb m 1 (λ q. omega arith))))
 
-  pub seen-session : sessionAt s seen ≡ sessionOf vs
+  pub seen-session : sessionSeen s seen ≡ sessionOf vs
   unfolding sessionOf
   seen-session =
       rw (i .times, seen-text)
@@ -75,12 +75,12 @@ module _ {s : List ℕ} {vs : List (List ℕ)} {seen : Seen} (i : SeenIs s vs se
   seen-sent = rw (i .times) (capped (λ k n. ltb 0 k ≡ ltb 0 n) (length vs) refl refl (λ m h. rw (lt-ltb 0 m (omega arith))))
 
 -- REFUSED REQUESTS
-pub request-refused : {frontends : ℕ} {s : List ℕ} {r : Request} {x : Refusal} {c : Read} {v : Span} → isPassed x ≡ false
+pub request-refused : {frontends : ℕ} {s : List ℕ} {r : Request} {x : Refusal} {c : Read} {v : Span} → isRead x ≡ false
     → (headRefusal s ≡ Require → Holds s (firstValue (valuesOf 3 (headerLines s))) (v .start) (v .end) × (v .start ≡ valueStart 3 s))
     → ((headRefusal s ≡ Require → ⊥) → v ≡ nowhere) → x ≡ requestRefusal frontends s → c ≡ cseqOf s
     → r ≡ refusedRequest x c v → RequestIs frontends s r
 request-refused {x = x} n k u e d q =
-    let no-pass : x ≡ Passed → ⊥ = λ y. let z : true ≡ false = ap isPassed (sym y) ∙ n in let w : _≡_ {A = ℕ} 0 1 = cc in omega arith in
+    let no-pass : x ≡ Passed → ⊥ = λ y. let z : true ≡ false = ap isRead (sym y) ∙ n in let w : _≡_ {A = ℕ} 0 1 = cc in omega arith in
     rw q
     (record {
       refusal = e;
@@ -103,10 +103,10 @@ request-refused {x = x} n k u e d q =
     })
 
 -- by one of steps 1 to 6, and not by the fifth, which also hands out a value
-pub head-refused : {frontends : ℕ} {s : List ℕ} {r : Request} {x : Refusal} {c : Read} → headRefusal s ≡ x → isPassed x ≡ false → (stepOf x ≡ 5 → ⊥) → c ≡ cseqOf s
+pub head-refused : {frontends : ℕ} {s : List ℕ} {r : Request} {x : Refusal} {c : Read} → headRefusal s ≡ x → isRead x ≡ false → (readingStep x ≡ 5 → ⊥) → c ≡ cseqOf s
     → r ≡ refusedRequest x c nowhere → RequestIs frontends s r
 unfolding requestRefusal
-head-refused h n k d q = request-refused n (λ z. absurd (k (ap stepOf (sym h ∙ z)))) (λ _. refl) (rw (h, n)) d q
+head-refused h n k d q = request-refused n (λ z. absurd (k (ap readingStep (sym h ∙ z)))) (λ _. refl) (rw (h, n)) d q
 
 module _ (s : List ℕ) {l : Lines} (i : LinesAre s l) where
   pub request-broken : l .sound ≡ false → (headRefusal s ≡ Layout) × (Nothing ≡ cseqOf s)
@@ -127,7 +127,7 @@ module _ (s : List ℕ) {l : Lines} (i : LinesAre s l) where
 
 -- WHAT A REQUEST ASKS
 pub request-passed : {frontends : ℕ} {s : List ℕ} {l : Lines} {c : Read} {m : Method} {from : ℕ} {a : Aim} {x : Session} {y : Transport} {v : Span} → Passing frontends s l c m from a
-    → x ≡ sessionAt s (getD (l .headers) 1 unseen) → y ≡ transportOf (textAt s (getD (l .headers) 2 unseen)) → v ≡ nowhere
+    → x ≡ sessionSeen s (getD (l .headers) 1 unseen) → y ≡ transportOf (headText s (getD (l .headers) 2 unseen)) → v ≡ nowhere
     → RequestIs frontends s (record {
       codes = a .codes;
       spans = a .spans;
@@ -164,10 +164,10 @@ request-passed {s = s} {a = a} p e q u =
     }
   where
     not-required : headRefusal s ≡ Require → ⊥
-    not-required z = let w : isPassed (a .refusal) ≡ false = ap isPassed (p .refusal) ∙ rw z in never (p .pass) w
+    not-required z = let w : isRead (a .refusal) ≡ false = ap isRead (p .refusal) ∙ rw z in never (p .pass) w
 
 -- a request past steps 3 to 5: its method, and its URI's place
-pub passed-is : (x : Refusal) → isPassed x ≡ true → x ≡ Passed
+pub passed-is : (x : Refusal) → isRead x ≡ true → x ≡ Passed
 passed-is Passed e = refl
 passed-is Layout e = never refl (sym e)
 passed-is CSeq e = never refl (sym e)
@@ -225,7 +225,7 @@ module _ (frontends : ℕ) (s : List ℕ) {l : Lines} {c : Read} {p : Parts} (h 
     passes = let o : isOther (methodOf s) ≡ false = ap isOther (sym e) ∙ sym q ∙ n in head-is ∙ rw o
 
     pub request-unrequired : headRefusal s ≡ Require → ⊥
-    request-unrequired z = let w : _≡_ {A = ℕ} 0 5 = ap stepOf (sym passes ∙ z) in omega arith
+    request-unrequired z = let w : _≡_ {A = ℕ} 0 5 = ap readingStep (sym passes ∙ z) in omega arith
 
     pub request-aimed : a .refusal ≡ requestRefusal frontends s
     unfolding requestRefusal
@@ -238,7 +238,7 @@ module _ (frontends : ℕ) (s : List ℕ) {l : Lines} {c : Read} {p : Parts} (h 
         (holds-inside 0 (l .line) s refl (omega arith) (h .line-in)
         (holds-inside (p .first + 1) (p .second) (part 0 (l .line) s) (sym uri-held) (omega (arith, h .first-in)) (omega (arith, h .second-in)) x))
 
-    pub request-passing : isPassed (a .refusal) ≡ true → Passing frontends s l c m (p .first + 1) a
+    pub request-passing : isRead (a .refusal) ≡ true → Passing frontends s l c m (p .first + 1) a
     request-passing y =
         let z : a .refusal ≡ Passed = passed-is (a .refusal) y in
         record {

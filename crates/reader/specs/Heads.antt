@@ -20,11 +20,11 @@ use Rattle.lines.specs.declared.Lines.{Lines}
 use Rattle.target.specs.Steps.{PartsAre}
 use Rattle.target.specs.declared.Parts.{Parts}
 use Rattle.reader.specs.Fields.{sessionIn, sessionOf, transportOf}
-use Rattle.target.specs.Uri.{streamOf, hostOf}
+use Rattle.target.specs.Uri.{streamNamed, hostOf}
 use Rattle.aim.specs.Query.{nowhere}
-use Rattle.refusals.specs.Refusals.{isPassed}
+use Rattle.refusals.specs.Refusals.{isRead}
 use Rattle.reader.specs.Request.{cseqOf, isTwice, methodOf, uriOf, requestRefusal, headRefusal}
-use Rattle.aim.specs.Aim.{queryIn, textIn, codeIn, placeOf}
+use Rattle.aim.specs.Aim.{queryIn, textIn, codeIn, methodNumber}
 use Rattle.aim.specs.Found.{queryStart, startIn}
 use Rattle.aim.specs.declared.Method.{Method}
 use Rattle.aim.specs.declared.Aim.{Aim}
@@ -57,19 +57,19 @@ abbrev pub methodAt : ℕ → Method
 methodAt k = getD (Options ∷ Setup ∷ Play ∷ Teardown ∷ []) k Other
 
 abbrev pub isOther : Method → Bool
-isOther method = eqb (placeOf method) 4
+isOther method = eqb (methodNumber method) 4
 
 abbrev pub isVersion : List ℕ → Bool
 isVersion s = areAlike Counts (linePart 2 (requestLine s)) (text "RTSP/1.0")
 
-abbrev pub textAt : List ℕ → Seen → List ℕ
-textAt s seen = part (seen .start) (seen .end) s
+abbrev pub headText : List ℕ → Seen → List ℕ
+headText s seen = part (seen .start) (seen .end) s
 
 abbrev pub cseqAt : List ℕ → Seen → Read
-cseqAt s seen = cond (eqb (seen .times) 1) (readNumber Allowed 10 4294967295 (textAt s seen)) Nothing
+cseqAt s seen = cond (eqb (seen .times) 1) (readNumber Allowed 10 4294967295 (headText s seen)) Nothing
 
-abbrev pub sessionAt : List ℕ → Seen → Session
-sessionAt s seen = cond (eqb (seen .times) 0) Absent (sessionIn (textAt s seen))
+abbrev pub sessionSeen : List ℕ → Seen → Session
+sessionSeen s seen = cond (eqb (seen .times) 0) Absent (sessionIn (headText s seen))
 
 abbrev pub isRepeated : List Seen → ℕ → Bool
 isRepeated headers k = ltb 1 (getD headers k unseen .times)
@@ -99,10 +99,10 @@ pub record Headed (s : List ℕ) (l : Lines) (cseq : Read) (parts : Parts) : Typ
 -- and that nothing refuses: what it asks
 pub record Passing (frontends : ℕ) (s : List ℕ) (l : Lines) (cseq : Read) (method : Method) (from : ℕ) (a : Aim) : Type 0 where
   pub refusal : a .refusal ≡ requestRefusal frontends s
-  pub pass : isPassed (a .refusal) ≡ true
+  pub pass : isRead (a .refusal) ≡ true
   pub cseq-is : cseq ≡ cseqOf s
   pub method-is : method ≡ methodOf s
-  pub stream : Number (a .stream) ≡ streamOf (uriOf s)
+  pub stream : Number (a .stream) ≡ streamNamed (uriOf s)
   pub host : Holds s (hostOf (uriOf s)) (from + a .host .start) (from + a .host .end)
   pub query : Holds s (queryIn (uriOf s)) (from + a .query .start) (from + a .query .end)
   pub codes : (k : ℕ) → getD (a .codes) k 0 ≡ codeIn frontends k (uriOf s)
@@ -138,7 +138,7 @@ pub record RequestIs (frontends : ℕ) (s : List ℕ) (r : Request) : Type 0 whe
   pub require : headRefusal s ≡ Require → Holds s (firstValue (valuesOf 3 (headerLines s))) (r .require .start) (r .require .end)
   pub unrequired : (headRefusal s ≡ Require → ⊥) → r .require ≡ nowhere
   pub method : r .refusal ≡ Passed → r .method ≡ methodOf s
-  pub stream : r .refusal ≡ Passed → Number (r .stream) ≡ streamOf (uriOf s)
+  pub stream : r .refusal ≡ Passed → Number (r .stream) ≡ streamNamed (uriOf s)
   pub host : r .refusal ≡ Passed → Holds s (hostOf (uriOf s)) (r .host .start) (r .host .end)
   pub query : r .refusal ≡ Passed → Holds s (queryIn (uriOf s)) (r .query .start) (r .query .end)
   pub codes : r .refusal ≡ Passed → (a : ℕ) → getD (r .codes) a 0 ≡ codeIn frontends a (uriOf s)
@@ -149,4 +149,4 @@ pub record RequestIs (frontends : ℕ) (s : List ℕ) (r : Request) : Type 0 whe
   pub host-starts : r .refusal ≡ Passed → r .host .start ≡ uriStart s + 7
   pub query-starts : r .refusal ≡ Passed → r .query .start ≡ uriStart s + queryStart (uriOf s)
   pub starts : r .refusal ≡ Passed → (a : ℕ) → getD (r .spans) a nowhere .start ≡ startIn a (uriOf s)
-  pub refused : isPassed (r .refusal) ≡ false → r ≡ refusedRequest (r .refusal) (r .cseq) (r .require)
+  pub refused : isRead (r .refusal) ≡ false → r ≡ refusedRequest (r .refusal) (r .cseq) (r .require)

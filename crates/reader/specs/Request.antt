@@ -15,13 +15,13 @@ use Rattle.lines.specs.Lines.{isLaidOut, requestLine, headerLines}
 use Rattle.lines.specs.Headers.{valuesOf}
 use Rattle.target.specs.Line.{isThree, linePart}
 use Rattle.reader.specs.Fields.{cseqFrom}
-use Rattle.refusals.specs.Refusals.{_refuses_or_, isPassed}
+use Rattle.refusals.specs.Refusals.{_refuses_or_, isRead}
 use Rattle.refusals.specs.declared.Refusal.{Refusal}
 use Rattle.refusals.specs.declared.Refusal.the-variants.{Passed, Layout, CSeq, RequestLine, HeaderTwice, Version, Require}
 use Rattle.refusals.specs.declared.Refusal.the-variants.{Method as OtherMethod}
 use Rattle.aim.specs.declared.Method.{Method}
 use Rattle.aim.specs.declared.Method.the-variants.{Options, Setup, Play, Teardown, Other}
-use Rattle.aim.specs.Aim.{uriRefusal, placeOf}
+use Rattle.aim.specs.Aim.{uriRefusal, methodNumber}
 
 -- a method by its word; "case counts"
 unfoldable pub methodIn : List ℕ → Method
@@ -50,8 +50,8 @@ headRefusal s =
     isTwice (headerLines s) refuses HeaderTwice or
     not (areAlike Counts (linePart 2 (requestLine s)) (text "RTSP/1.0")) refuses Version or
     ltb 0 (length (valuesOf 3 (headerLines s))) refuses Require or
-    eqb (placeOf (methodOf s)) 4 refuses OtherMethod or
+    eqb (methodNumber (methodOf s)) 4 refuses OtherMethod or
     Passed
 
 unfoldable pub requestRefusal : ℕ → List ℕ → Refusal
-requestRefusal frontends s = not (isPassed (headRefusal s)) refuses headRefusal s or uriRefusal frontends (methodOf s) (uriOf s)
+requestRefusal frontends s = not (isRead (headRefusal s)) refuses headRefusal s or uriRefusal frontends (methodOf s) (uriOf s)

@@ -8,7 +8,7 @@ pub use fields::Transport;
 ghost use mathlib.Core.Path.{_≡_};
 ghost use Prim.Native.Nat.{_≤_};
 ghost use lib.ListN.{length};
-ghost use Rattle.reader.specs.Heads.{cseqAt, sessionAt, areTwice, Begun, Headed, Passing, refusedRequest, RequestIs, isOther};
+ghost use Rattle.reader.specs.Heads.{cseqAt, sessionSeen, areTwice, Begun, Headed, Passing, refusedRequest, RequestIs, isOther};
 ghost use Rattle.reader.specs.Request.{methodIn};
 use aim::Aim;
 use aim::Method;
@@ -69,7 +69,7 @@ fn cseq_in(s: &[u8], seen: Seen) -> Read
 
 fn session_at(s: &[u8], seen: Seen) -> Session
     requires { ⌜ (seen .start ≤ seen .end) × (seen .end ≤ length (now s)) ⌝ }
-    ensures { λ r. ⌜ r ≡ sessionAt (now (s .entry)) seen ⌝ }
+    ensures { λ r. ⌜ r ≡ sessionSeen (now (s .entry)) seen ⌝ }
 {
     if seen.times == 0 {
         return Session::Absent;

@@ -1,6 +1,6 @@
 // Why a request is refused, in document 01's order: each case with its step and its status.
 ghost use mathlib.Core.Path.{_≡_};
-ghost use Rattle.refusals.specs.Refusals.{stepOf, statusOf, isPassed};
+ghost use Rattle.refusals.specs.Refusals.{readingStep, readingStatus, isRead};
 
 pub enum Refusal {
     // Nothing of steps 1 to 10 refuses the request.
@@ -28,7 +28,7 @@ pub enum Refusal {
 
 // Document 01's step, 0 where nothing refuses.
 pub fn step(refusal: Refusal) -> u8
-    ensures { λ r. ⌜ r ≡ stepOf refusal ⌝ }
+    ensures { λ r. ⌜ r ≡ readingStep refusal ⌝ }
 {
     match refusal {
         Refusal::Passed => 0,
@@ -52,7 +52,7 @@ pub fn step(refusal: Refusal) -> u8
 
 // The status that answers it, 200 where nothing refuses.
 pub fn status(refusal: Refusal) -> u16
-    ensures { λ r. ⌜ r ≡ statusOf refusal ⌝ }
+    ensures { λ r. ⌜ r ≡ readingStatus refusal ⌝ }
 {
     match refusal {
         Refusal::Passed => 200,
@@ -76,7 +76,7 @@ pub fn status(refusal: Refusal) -> u16
 
 // Whether nothing of steps 1 to 10 refuses the request.
 pub fn is_passed(refusal: Refusal) -> bool
-    ensures { λ r. ⌜ r ≡ isPassed refusal ⌝ }
+    ensures { λ r. ⌜ r ≡ isRead refusal ⌝ }
 {
     step(refusal) == 0
 }

@@ -6,5 +6,5 @@ use Rattle.table.specs.Made.{settingsOf, fresh}
 use Rattle.satbox.specs.Requests.{answerOf}
 
 -- the answer to a request's bytes
-abbrev pub answered : List ℕ → List ℕ
-answered s = answerOf s 0 0xC0A8B227 1 (fresh (settingsOf 2 1024))
+abbrev pub printed : List ℕ → List ℕ
+printed s = answerOf s 0 0xC0A8B227 1 (fresh (settingsOf 2 1024))

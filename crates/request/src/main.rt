@@ -6,7 +6,7 @@ ghost use mathlib.Core.List.{_++_};
 ghost use Prim.Native.Nat.{_≤_};
 ghost use lib.ListN.{length, drop};
 ghost use Rattle.io.specs.Counts.{Counts};
-ghost use Rattle.request.specs.Program.{answered};
+ghost use Rattle.request.specs.Program.{printed};
 use table::SatBox;
 use table::Settings;
 
@@ -22,8 +22,8 @@ const ADDRESS: u32 = 0xC0A8B227;
 // Puts a fresh box's answer to a request at the front of a buffer, and returns how many bytes it has.
 fn answer(request: &[u8], buffer: &mut [u8]) -> usize
     requires { ⌜ 4096 ≤ length (now buffer) ⌝ }
-    ensures { λ n. ⌜ (n ≡ length (answered (now (request .entry))))
-        × (now (buffer .exit) ≡ answered (now (request .entry)) ++ drop n (now (buffer .entry))) ⌝ }
+    ensures { λ n. ⌜ (n ≡ length (printed (now (request .entry))))
+        × (now (buffer .exit) ≡ printed (now (request .entry)) ++ drop n (now (buffer .entry))) ⌝ }
     ensures { λ n. ⌜ Counts n (now (buffer .exit)) ⌝ }
 {
     let mut journal = [0u8; 1024];

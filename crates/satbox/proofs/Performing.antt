@@ -21,7 +21,7 @@ use Rattle.table.proofs.Ids.{with-none, with-at}
 use Rattle.closings.specs.Did.{restreamed, reseated, noting}
 use Rattle.closings.specs.Does.{Does}
 use Rattle.closings.specs.Closing.{closing}
-use Rattle.serving.specs.Serving.{replaced}
+use Rattle.serving.specs.Serving.{withSession}
 use Rattle.satbox.specs.Branches.{settled, Settable}
 use Rattle.serving.specs.Turns.{performed, Performable, deniedAs}
 use Rattle.serving.specs.declared.Turn.{Turn}
@@ -42,12 +42,12 @@ row-kept t id m h e = e ∙ rw (← with-none (t .streams) id m h)
 -- the session of a place is set, and none past the last
 pub seat-set : (t : SatBox) {u : SatBox} (place : ℕ) (s : Session)
     → u ≡ record { sessions = set (t .sessions) place s; streams = t .streams; settings = t .settings; held = t .held; clock = t .clock; sequence = t .sequence; spare = t .spare }
-    → u ≡ replaced place s t
-unfolding replaced
+    → u ≡ withSession place s t
+unfolding withSession
 seat-set t place s e = e
 
-pub seat-kept : (t : SatBox) {u : SatBox} (place : ℕ) (s : Session) → length (t .sessions) ≤ place → u ≡ t → u ≡ replaced place s t
-unfolding replaced
+pub seat-kept : (t : SatBox) {u : SatBox} (place : ℕ) (s : Session) → length (t .sessions) ≤ place → u ≡ t → u ≡ withSession place s t
+unfolding withSession
 seat-kept t place s h e = e ∙ rw (set-out (t .sessions) place s h)
 
 pub restreamed-places : (t : SatBox) {u : SatBox} (id : ℕ) (m : Stream) → u ≡ restreamed id m t → length (u .sessions) ≡ length (t .sessions)
@@ -79,7 +79,7 @@ pub settled-closes : (x : Turn) (t : SatBox) {u : SatBox} {j : List ℕ} → x .
 unfolding settled
 settled-closes x t {u} {j} z e = rw (eq-eqb (x .kind) 3 z) (record { satbox = e; journal = sym (written-none j (t .held)) })
 
-module _ (x : Turn) (t : SatBox) {u : SatBox} {j : List ℕ} (n : x .kind ≡ 3 → ⊥) (e : u ≡ replaced (x .place) (x .seat) (restreamed (x .id) (x .stream) t)) where
+module _ (x : Turn) (t : SatBox) {u : SatBox} {j : List ℕ} (n : x .kind ≡ 3 → ⊥) (e : u ≡ withSession (x .place) (x .seat) (restreamed (x .id) (x .stream) t)) where
   -- A SESSION CHANGED, or nothing
   pub settled-reseats : x .kind ≡ 0 → Does t j (settled x t) u j
   unfolding settled
@@ -90,7 +90,7 @@ module _ (x : Turn) (t : SatBox) {u : SatBox} {j : List ℕ} (n : x .kind ≡ 3 
   pub settled-seats : {k : List ℕ} {feed number : ℕ} → (x .kind ≡ 0 → ⊥) → feed ≡ streamOf u (x .seat .stream) .frontend → number ≡ nextSequence (u .sequence)
       → k ≡ written j (u .held) (encoded (record { kind = x .kind; cause = 0; clock = u .clock; session = x .seat .number; stream = x .seat .stream; frontend = feed; sequence = u .sequence }))
       → Does t j (settled x t) (record { sessions = u .sessions; streams = u .streams; settings = u .settings; held = u .held + 16; clock = u .clock; sequence = number; spare = u .spare }) k
-  unfolding settled restreamed replaced noting reseated
+  unfolding settled restreamed withSession noting reseated
   settled-seats z f s w =
       rw (ne-eqb (x .kind) 3 n, ne-eqb (x .kind) 0 z)
       (record { satbox = rw (s, e); journal = rw (append-nil, ← rw e at f) (rw e at w) })

@@ -36,7 +36,7 @@ use Rattle.steps.specs.declared.cases.Case.the-variants.{Passed, Reading, Combi
 use Rattle.steps.proofs.ReplyLaws.{Follows, follows-passed, follows-refused, isReading, unread-chain, table-unread, reply-told, Numbers, reply-fits}
 use Rattle.closings.specs.Does.{Does}
 use Rattle.closings.specs.Closing.{swept, sweeping, atClock}
-use Rattle.serving.specs.Serving.{Serving, merging, merges, isClash, isTooMany, opens, canSeat, changeCase, caseOf, denied, grant, served, clientOf, answered}
+use Rattle.serving.specs.Serving.{Serving, merging, merges, isClash, isTooMany, isOpening, canSeat, changeCase, caseOf, denied, grant, served, clientOf, answered}
 use Rattle.closings.specs.Did.{bytesOf}
 use Rattle.satbox.specs.Calls.{_else_andThen_, ifDone}
 use Rattle.satbox.specs.Branches.{Responds}
@@ -58,7 +58,7 @@ unfolding changeCase
 change-unread t a l =
     unread-chain (merges (sightOf t a) && isClash (merging t a l .outcome)) Combination _ refl
     (unread-chain (merges (sightOf t a) && isTooMany (merging t a l .outcome)) TooManyPids _ refl
-    (unread-chain (opens (sightOf t a) && not (canSeat t (sightOf t a))) Full Passed refl refl))
+    (unread-chain (isOpening (sightOf t a) && not (canSeat t (sightOf t a))) Full Passed refl refl))
 
 pub case-unread : (t : SatBox) (a : Asked) (l : Lists) → isReading (caseOf t a l) ≡ false
 unfolding caseOf
@@ -97,10 +97,10 @@ module _ (s : List ℕ) (address draw : ℕ) (t : SatBox) (r : Request) (i : Req
   answered-follows =
       let a = askedOf (t .settings .frontends) s in
       let client = clientOf address draw a in
-      cond-keeps (λ x. Follows r (x .case)) (reading.isPassed (requestRefusal (t .settings .frontends) s))
+      cond-keeps (λ x. Follows r (x .case)) (reading.isRead (requestRefusal (t .settings .frontends) s))
       (served t a (listsOf s) client) (denied t (Reading (requestRefusal (t .settings .frontends) s)))
       (λ e. follows-passed (i .refusal ∙ passed-is _ e) (served-unread t a (listsOf s) client))
-      (λ n. follows-refused (ap Reading (sym (i .refusal))) (ap reading.isPassed (i .refusal) ∙ n))
+      (λ n. follows-refused (ap Reading (sym (i .refusal))) (ap reading.isRead (i .refusal) ∙ n))
 
   module _ {b d : List ℕ} {v : Turn} {a : Answer} {n : ℕ}
       (p : TurnIs t (answered s address draw t) v) (m : Numbers (v .session)) (h : 4096 ≤ length b)

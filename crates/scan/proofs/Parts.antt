@@ -11,7 +11,7 @@ use Rattle.scan.specs.Lists.{part, all}
 use Rattle.scan.specs.Found.{Holds, FirstOf}
 use Rattle.scan.specs.Trim.{isEmpty}
 use lib.Dec.{ltb}
-use Rattle.scan.specs.Classes.{isName, isNamed}
+use Rattle.scan.specs.Classes.{isName, areNameBytes}
 use Rattle.scan.specs.Cut.{is, before}
 
 module _ {A : Type 0} where
@@ -90,7 +90,7 @@ pub some-part : (s : List ℕ) (a e : ℕ) → a < e → e ≤ length s → isEm
 some-part s a e h k = some-text (part a e s) (rw (part-length a e s k) (omega arith))
 
 -- a name, by the place of the byte that ends it
-pub named-by : (b : ℕ) {k : ℕ} (xs : List ℕ) → FirstOf (is b) xs k → isNamed (before b xs) ≡ ltb 0 k && all isName (part 0 k xs)
+pub named-by : (b : ℕ) {k : ℕ} (xs : List ℕ) → FirstOf (is b) xs k → areNameBytes (before b xs) ≡ ltb 0 k && all isName (part 0 k xs)
 named-by b {k} xs f =
     let n : length (part 0 k xs) ≡ k = part-length 0 k xs (f .within) ∙ sub-zero k in
-    ap (λ j. isNamed (part 0 j xs)) (sym (f .is)) ∙ ap (λ j. ltb 0 j && all isName (part 0 k xs)) n
+    ap (λ j. areNameBytes (part 0 j xs)) (sym (f .is)) ∙ ap (λ j. ltb 0 j && all isName (part 0 k xs)) n

@@ -21,8 +21,8 @@ abbrev pub isName : ℕ → Bool
 isName b = isCapital b || isBetween 97 122 b || isDigit b || eqb b 45 || eqb b 46
 
 -- "at least one" of these and nothing else
-abbrev pub isNamed : List ℕ → Bool
-isNamed xs = ltb 0 (length xs) && all isName xs
+abbrev pub areNameBytes : List ℕ → Bool
+areNameBytes xs = ltb 0 (length xs) && all isName xs
 
 -- "all other bytes are 32 to 126"
 abbrev pub isText : ℕ → Bool

@@ -6,7 +6,7 @@ use lib.ListN.{length}
 use Rattle.scan.specs.Classes.{isBetween}
 use Rattle.journal.specs.Bytes.{recordSize}
 use Rattle.stream.specs.declared.Stream.{Stream}
-use Rattle.table.specs.Table.{opens, streamOf, isLive}
+use Rattle.table.specs.Table.{openCount, streamOf, isLive}
 use Rattle.finding.specs.Finding.{lowestPlace, lowestId, isHeld, drawn}
 use Rattle.table.specs.declared.Session.{Session}
 use Rattle.table.specs.declared.SatBox.{SatBox}
@@ -19,7 +19,7 @@ hasPlace t = ltb (lowestPlace (t .sessions)) (length (t .sessions))
 
 -- not "bytes held + 16 × open + 32 > C"
 abbrev pub hasRoom : SatBox → Bool
-hasRoom t = leb (t .held + recordSize * opens t + 2 * recordSize) (t .settings .size)
+hasRoom t = leb (t .held + recordSize * openCount t + 2 * recordSize) (t .settings .size)
 
 -- not "a new stream whose fe is held, or with no fe and no frontend free": with none free the lowest is past the last
 abbrev pub hasFrontend : ℕ → SatBox → Bool
@@ -32,19 +32,19 @@ guest owner id c t =
     record { number = drawn (t .sessions) (c .draw); address = c .address; last = t .clock; port = c .port; stream = id; owner = owner; playing = 0 }
 
 -- "An opening takes the lowest free place."
-unfoldable pub seating : ℕ → Session → SatBox → Did
-seating kind s t = noting kind 0 s (lowestPlace (t .sessions)) s t
+unfoldable pub seatingAs : ℕ → Session → SatBox → Did
+seatingAs kind s t = noting kind 0 s (lowestPlace (t .sessions)) s t
 
 -- "SETUP on a live stream without Session joins it, never owning it": kind 2
 abbrev pub canJoin : ℕ → SatBox → Bool
 canJoin id t = hasPlace t && (isLive (streamOf t id) && hasRoom t)
 
 unfoldable pub joining : ℕ → Client → SatBox → Did
-joining id client t = when (canJoin id t) (seating 2 (guest 0 id client t) t) t
+joining id client t = when (canJoin id t) (seatingAs 2 (guest 0 id client t) t) t
 
 -- "A new stream takes the lowest free ID": kind 1
 abbrev pub canOpen : ℕ → SatBox → Bool
 canOpen f t = hasPlace t && (hasFrontend f t && hasRoom t)
 
 unfoldable pub opening : Stream → Client → SatBox → Did
-opening m client t = when (canOpen (m .frontend) t) (seating 1 (guest 1 (lowestId (t .streams)) client t) (restreamed (lowestId (t .streams)) m t)) t
+opening m client t = when (canOpen (m .frontend) t) (seatingAs 1 (guest 1 (lowestId (t .streams)) client t) (restreamed (lowestId (t .streams)) m t)) t

@@ -5,6 +5,7 @@ use mathlib.Core.Bool.{Bool, true, false, not, cond, _&&_, _||_}
 use lib.Dec.{eqb}
 use lib.ListN.{getD, set}
 use Rattle.refusals.specs.Refusals as reading
+use Rattle.aim.specs.Aim.{methodNumber}
 use Rattle.aim.specs.declared.Method.{Method}
 use Rattle.aim.specs.declared.Method.the-variants.{Options, Setup, Play, Teardown, Other}
 use Rattle.reader.specs.Request.{requestRefusal}
@@ -43,11 +44,7 @@ unfoldable pub merging : SatBox → Asked → Lists → Change
 merging t a l = mergeOf (unmerged t a) (a .codes) (l .pids) (l .delpids) (l .addpids)
 
 abbrev pub takesQuery : Method → Bool
-takesQuery Options = false
-takesQuery Setup = true
-takesQuery Play = true
-takesQuery Teardown = false
-takesQuery Other = false
+takesQuery m = eqb (methodNumber m) 1 || eqb (methodNumber m) 2
 
 -- whose query is merged: a new stream's, and "the owner's"; "SETUP on a live stream without Session joins it, never owning it"
 abbrev pub merges : Sight → Bool
@@ -64,8 +61,8 @@ isTooMany Clash = false
 isTooMany TooMany = true
 
 -- an opening is a SETUP without a session
-abbrev pub opens : Sight → Bool
-opens v = isSetup (v .method) && not (isNamed v)
+abbrev pub isOpening : Sight → Bool
+isOpening v = isSetup (v .method) && not (isNamed v)
 
 -- what an opening takes is there: on a new stream, or on a live one
 abbrev pub canSeat : SatBox → Sight → Bool
@@ -76,7 +73,7 @@ unfoldable pub changeCase : SatBox → Asked → Lists → Case
 changeCase t a l =
     (merges (sightOf t a) && isClash (merging t a l .outcome)) refuses Combination or
     (merges (sightOf t a) && isTooMany (merging t a l .outcome)) refuses TooManyPids or
-    (opens (sightOf t a) && not (canSeat t (sightOf t a))) refuses Full or
+    (isOpening (sightOf t a) && not (canSeat t (sightOf t a))) refuses Full or
     Passed
 
 -- THE CASE of a request that steps 1 to 10 let through
@@ -84,8 +81,8 @@ unfoldable pub caseOf : SatBox → Asked → Lists → Case
 caseOf t a l = orElse (tableCase (sightOf t a)) (changeCase t a l)
 
 -- WHAT IS DONE: to a session, which is changed in its place; nothing is written of it
-unfoldable pub replaced : ℕ → Session → SatBox → SatBox
-replaced place s t = boxWith (set (t .sessions) place s) (t .streams) (t .held) (t .clock) (t .sequence) t
+unfoldable pub withSession : ℕ → Session → SatBox → SatBox
+withSession place s t = boxWith (set (t .sessions) place s) (t .streams) (t .held) (t .clock) (t .sequence) t
 
 -- an OPTIONS sets "the last time to the clock"; "SETUP in a session replaces only the port"; PLAY "marks the session playing"
 abbrev pub refreshed : ℕ → Session → Session
@@ -98,8 +95,8 @@ abbrev pub playing : Session → Session
 playing s = sessionWith (s .last) (s .port) 1 s
 
 -- the session after a SETUP or a PLAY that names it
-abbrev pub after : Sight → Session
-after v = cond (isSetup (v .method)) (atPort (v .port) (v .session)) (playing (v .session))
+abbrev pub seatAfter : Sight → Session
+seatAfter v = cond (isSetup (v .method)) (atPort (v .port) (v .session)) (playing (v .session))
 
 -- what a request does, and the session that its answer is about
 pub record Serving : Type 0 where
@@ -112,14 +109,14 @@ granted d s = record { did = d; session = s; case = Passed }
 
 -- a session that is named has its last time set; OPTIONS without one does nothing
 abbrev pub keeping : SatBox → Sight → Serving
-keeping t v = granted (when (isNamed v) (nothing (replaced (v .place) (refreshed (t .clock) (v .session)) t)) t) (v .session)
+keeping t v = granted (when (isNamed v) (nothing (withSession (v .place) (refreshed (t .clock) (v .session)) t)) t) (v .session)
 
 -- "for the owner, merges the query"; "PLAY merges the owner's query and marks the session playing"
 abbrev pub retuned : SatBox → Asked → Lists → SatBox
 retuned t a l = cond (merges (sightOf t a)) (restreamed (a .stream) (merging t a l .stream) t) t
 
 abbrev pub retuning : SatBox → Asked → Lists → Serving
-retuning t a l = granted (nothing (replaced (sightOf t a .place) (after (sightOf t a)) (retuned t a l))) (after (sightOf t a))
+retuning t a l = granted (nothing (withSession (sightOf t a .place) (seatAfter (sightOf t a)) (retuned t a l))) (seatAfter (sightOf t a))
 
 -- a SETUP without a session: a new stream, or one that is live
 abbrev pub seating : SatBox → Asked → Lists → Client → Serving
@@ -151,6 +148,6 @@ clientOf address draw a = record { address = address; port = portOf (a .transpor
 -- steps 1 to 18, on a table that was swept
 unfoldable pub answered : List ℕ → ℕ → ℕ → SatBox → Serving
 answered s address draw t =
-    cond (reading.isPassed (requestRefusal (t .settings .frontends) s))
+    cond (reading.isRead (requestRefusal (t .settings .frontends) s))
     (served t (askedOf (t .settings .frontends) s) (listsOf s) (clientOf address draw (askedOf (t .settings .frontends) s)))
     (denied t (Reading (requestRefusal (t .settings .frontends) s)))

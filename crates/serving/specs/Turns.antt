@@ -34,7 +34,7 @@ use Rattle.closings.specs.Did.{Did, nothing, restreamed, noting}
 use Rattle.closings.specs.Does.{Closable}
 use Rattle.closings.specs.Closing.{closing}
 use Rattle.serving.specs.Opening.{hasPlace, hasRoom, guest, canOpen}
-use Rattle.serving.specs.Serving.{Serving, feedOf, takesQuery, merges, opens, replaced, refreshed, after}
+use Rattle.serving.specs.Serving.{Serving, feedOf, takesQuery, merges, isOpening, withSession, refreshed, seatAfter}
 use Rattle.serving.specs.declared.opening.Client.{Client}
 use Rattle.serving.specs.declared.opening.Offer.{Offer}
 use Rattle.serving.specs.declared.Turn.{Turn}
@@ -71,12 +71,12 @@ liveOffer t id feed client =
     }
 
 -- an ID and a frontend have eight bits; a larger number is none of either
-abbrev pub small : ℕ → ℕ
-small n = cond (ltb n 256) n 0
+abbrev pub isSmall : ℕ → ℕ
+isSmall n = cond (ltb n 256) n 0
 
 abbrev pub offerOf : SatBox → Sight → Client → Offer
 offerOf t v client =
-    cond (eqb (v .stream) 0) (newOffer t (small (feedOf t (v .fe))) client) (liveOffer t (small (v .stream)) (v .frontend) client)
+    cond (eqb (v .stream) 0) (newOffer t (isSmall (feedOf t (v .fe))) client) (liveOffer t (isSmall (v .stream)) (v .frontend) client)
 
 -- TURNS: a refusal; a session changed in its place; one whose stream is set too; one that opens, where nothing is lacking; one that closes
 abbrev pub deniedAs : Case → Turn
@@ -89,7 +89,7 @@ reseatedAs place seat session =
 
 abbrev pub retunedAs : Sight → Stream → Turn
 retunedAs v m =
-    record { stream = m; seat = after v; session = after v; place = v .place; id = v .stream; kind = 0; case = Passed }
+    record { stream = m; seat = seatAfter v; session = seatAfter v; place = v .place; id = v .stream; kind = 0; case = Passed }
 
 abbrev pub openedAs : Offer → ℕ → ℕ → Stream → Turn
 openedAs o kind id m =
@@ -114,7 +114,7 @@ openedBy c o = ifMerged (c .outcome) (seatedAs o 1 (o .seat .stream) (c .stream)
 
 unfoldable pub retunedBy : Sight → Change → Turn
 retunedBy v c =
-    cond (owns (v .stream) (v .session)) (ifMerged (c .outcome) (retunedAs v (c .stream))) (reseatedAs (v .place) (after v) (after v))
+    cond (owns (v .stream) (v .session)) (ifMerged (c .outcome) (retunedAs v (c .stream))) (reseatedAs (v .place) (seatAfter v) (seatAfter v))
 
 unfoldable pub setUpBy : Sight → Change → Offer → Turn
 setUpBy v c o = cond (isNamed v) (retunedBy v c) (cond (eqb (v .stream) 0) (openedBy c o) (seatedAs o 2 0 noStream))
@@ -134,7 +134,7 @@ turnBy v c o case clock = cond (isPassed case) (methodTurn (v .method) v c o clo
 abbrev pub seated : Turn → SatBox → Did
 seated x t =
     cond (eqb (x .kind) 0)
-    (nothing (replaced (x .place) (x .seat) t))
+    (nothing (withSession (x .place) (x .seat) t))
     (noting (x .kind) 0 (x .seat) (x .place) (x .seat) t)
 
 unfoldable pub performed : Turn → SatBox → Did
@@ -192,10 +192,10 @@ Found t v m = (v .frontend ≡ 0 → ⊥) → m ≡ streamOf t (v .stream)
 
 -- the first of steps 1 to 15 that refuses it
 abbrev pub firstCase : Refusal → Sight → Case
-firstCase refusal v = cond (reading.isPassed refusal) (tableCase v) (Reading refusal)
+firstCase refusal v = cond (reading.isRead refusal) (tableCase v) (Reading refusal)
 
 abbrev pub opensNow : Case → Sight → Bool
-opensNow case v = isPassed case && opens v
+opensNow case v = isPassed case && isOpening v
 
 -- whether its query is merged, and into which stream: a new one, or the one that it names
 abbrev pub mergesNow : Case → Sight → Bool

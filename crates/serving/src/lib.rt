@@ -6,7 +6,7 @@ pub use opening::Client;
 pub use opening::Offer;
 pub use opening::offer_of;
 ghost use mathlib.Core.Path.{_≡_};
-ghost use Rattle.serving.specs.Serving.{refreshed, atPort, playing, after};
+ghost use Rattle.serving.specs.Serving.{refreshed, atPort, playing, seatAfter};
 ghost use Rattle.serving.specs.Turns.{deniedAs, reseatedAs, seatedAs, leftAs, openedBy, retunedBy, setUpBy, turnBy};
 use aim::Method;
 use steps::Case;
@@ -108,7 +108,7 @@ fn play(s: Session) -> Session
 
 // The session after a SETUP or a PLAY that names it.
 fn after(v: Sight) -> Session
-    ensures { λ r. ⌜ r ≡ after v ⌝ }
+    ensures { λ r. ⌜ r ≡ seatAfter v ⌝ }
 {
     let method = v.method;
     let s = v.session;

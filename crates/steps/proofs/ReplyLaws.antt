@@ -7,7 +7,7 @@ use native.Mathlib.Omega.{arith}
 use lib.Dec.{eqb, leb, ltb}
 use lib.ListN.{length}
 use borrow.Author.Tests.{eqb-true, eqb-false, le-leb, leb-true}
-use Rattle.scan.specs.Lists.{part}
+use Rattle.scan.specs.Lists.{_gives_or_, part}
 use Rattle.scan.specs.Found.{Holds}
 use Rattle.scan.specs.declared.Span.{Span}
 use Rattle.scan.proofs.Bools.{never, and-both, by-test, cond-keeps}
@@ -33,14 +33,14 @@ use Rattle.reader.specs.Request.{methodOf, uriOf, cseqOf, isTwice, headRefusal,
 use Rattle.reader.specs.Heads.{isOther, isVersion, RequestIs}
 use Rattle.reader.specs.declared.Request.{Request}
 use Rattle.table.specs.declared.Session.{Session}
-use Rattle.answer.specs.Lines.{_gives_or_, refusedLines, answerLines}
+use Rattle.answer.specs.Lines.{refusedLines, answerLines}
 use Rattle.answer.specs.Answers.{textAt, linesBy, linesOf, answerText}
 use Rattle.answer.specs.declared.Answer.{Answer}
 use Rattle.answer.specs.declared.Kind.the-variants as kind
 use Rattle.answer.proofs.Fits.{Is-small, answer-fits}
 use Rattle.steps.proofs.Telling.{asked-short, head-short}
 use Rattle.steps.specs.Cases.{stepOf, statusOf, isPassed}
-use Rattle.steps.specs.Steps.{lacksSession, isDead, isOutOfState, isAnothers, lacksPort, tableCase}
+use Rattle.steps.specs.Steps.{lacksSession, namesDead, isOutOfState, isAnothers, lacksPort, tableCase}
 use Rattle.steps.specs.Replies.{grantedLines, replyText}
 use Rattle.steps.specs.Handed.{grantedKind, kindOf, replyTo}
 use Rattle.steps.specs.declared.Sight.{Sight}
@@ -62,7 +62,7 @@ isReading Full = false
 -- a case that what was read may have: its refusal, or where it has none any other
 pub data Follows (r : Request) (c : Case) : Type 0 where
   follows-passed : r .refusal ≡ refusal.Passed → isReading c ≡ false → Follows r c
-  follows-refused : c ≡ Reading (r .refusal) → reading.isPassed (r .refusal) ≡ false → Follows r c
+  follows-refused : c ≡ Reading (r .refusal) → reading.isRead (r .refusal) ≡ false → Follows r c
 
 -- a case that refuses, and is answered without a line of its own
 abbrev Is-bare : Case → Type 0
@@ -98,7 +98,7 @@ pub table-unread : (v : Sight) → isReading (tableCase v) ≡ false
 unfolding tableCase
 table-unread v =
     unread-chain (lacksSession v) NoSession _ refl
-    (unread-chain (isDead v) NotLive _ refl
+    (unread-chain (namesDead v) NotLive _ refl
     (unread-chain (isOutOfState v) State _ refl
     (unread-chain (isAnothers v) NotOwner _ refl
     (unread-chain (lacksPort v) Transport Passed refl refl))))
@@ -121,7 +121,7 @@ unfolding textAt
 text-nowhere s = cond-keeps (λ (l : List ℕ). l ≡ []) (leb 0 0 && leb 0 (length s)) [] [] (λ _. refl) (λ _. refl)
 
 -- step 5 is a Require header's
-uri-step : (frontends : ℕ) (method : Method) (u : List ℕ) → reading.stepOf (uriRefusal frontends method u) ≡ 5 → ⊥
+uri-step : (frontends : ℕ) (method : Method) (u : List ℕ) → reading.readingStep (uriRefusal frontends method u) ≡ 5 → ⊥
 unfolding uriRefusal
 uri-step frontends method u =
     keeps (ltb 1024 (length u)) refusal.UriLong _ (λ e. omega arith)
@@ -133,10 +133,10 @@ uri-step frontends method u =
     (keeps (hasQuery u && not (areWithin frontends (queryOf u))) refusal.Value _ (λ e. omega arith)
     (keeps (lacksStream method (hasStream u) (hasQuery u)) refusal.NoStream refusal.Passed (λ e. omega arith) (λ e. omega arith))))))))
   where
-    keeps : (b : Bool) (x y : Refusal) → (reading.stepOf x ≡ 5 → ⊥) → (reading.stepOf y ≡ 5 → ⊥) → reading.stepOf (b refuses x or y) ≡ 5 → ⊥
-    keeps = refuses-keeps (λ x. reading.stepOf x ≡ 5 → ⊥)
+    keeps : (b : Bool) (x y : Refusal) → (reading.readingStep x ≡ 5 → ⊥) → (reading.readingStep y ≡ 5 → ⊥) → reading.readingStep (b refuses x or y) ≡ 5 → ⊥
+    keeps = refuses-keeps (λ x. reading.readingStep x ≡ 5 → ⊥)
 
-head-step : (s : List ℕ) → reading.stepOf (headRefusal s) ≡ 5 → headRefusal s ≡ refusal.Require
+head-step : (s : List ℕ) → reading.readingStep (headRefusal s) ≡ 5 → headRefusal s ≡ refusal.Require
 unfolding headRefusal
 head-step s =
     keeps (not (isLaidOut s)) refusal.Layout _ (λ e. absurd (omega arith))
@@ -147,15 +147,15 @@ head-step s =
     (keeps (ltb 0 (length (valuesOf 3 (headerLines s)))) refusal.Require _ (λ e. refl)
     (keeps (isOther (methodOf s)) refusal.Method refusal.Passed (λ e. absurd (omega arith)) (λ e. absurd (omega arith))))))))
   where
-    keeps : (b : Bool) (x y : Refusal) → (reading.stepOf x ≡ 5 → x ≡ refusal.Require) → (reading.stepOf y ≡ 5 → y ≡ refusal.Require)
-        → reading.stepOf (b refuses x or y) ≡ 5 → (b refuses x or y) ≡ refusal.Require
-    keeps = refuses-keeps (λ x. reading.stepOf x ≡ 5 → x ≡ refusal.Require)
+    keeps : (b : Bool) (x y : Refusal) → (reading.readingStep x ≡ 5 → x ≡ refusal.Require) → (reading.readingStep y ≡ 5 → y ≡ refusal.Require)
+        → reading.readingStep (b refuses x or y) ≡ 5 → (b refuses x or y) ≡ refusal.Require
+    keeps = refuses-keeps (λ x. reading.readingStep x ≡ 5 → x ≡ refusal.Require)
 
-required : (frontends : ℕ) (s : List ℕ) → reading.stepOf (requestRefusal frontends s) ≡ 5 → headRefusal s ≡ refusal.Require
+required : (frontends : ℕ) (s : List ℕ) → reading.readingStep (requestRefusal frontends s) ≡ 5 → headRefusal s ≡ refusal.Require
 unfolding requestRefusal
 required frontends s =
-    by-test (λ t. reading.stepOf (not t refuses headRefusal s or uriRefusal frontends (methodOf s) (uriOf s)) ≡ 5 → headRefusal s ≡ refusal.Require)
-    (reading.isPassed (headRefusal s))
+    by-test (λ t. reading.readingStep (not t refuses headRefusal s or uriRefusal frontends (methodOf s) (uriOf s)) ≡ 5 → headRefusal s ≡ refusal.Require)
+    (reading.isRead (headRefusal s))
     (λ _ e. absurd (uri-step frontends (methodOf s) (uriOf s) e))
     (λ _ e. head-step s e)
 
@@ -185,14 +185,14 @@ refused-told step word value a h = by (eqb step 5) (eqb step 6) (eqb step 10) h
     by false false false k = refl
 
 module _ (frontends : ℕ) (s : List ℕ) (r : Request) (i : RequestIs frontends s r) where
-  text-none : (reading.stepOf (r .refusal) ≡ 5 → ⊥) → textAt s (r .require) ≡ []
-  text-none h = rw (i .unrequired (λ z. h (ap reading.stepOf (i .refusal ∙ requires frontends s z)))) (text-nowhere s)
+  text-none : (reading.readingStep (r .refusal) ≡ 5 → ⊥) → textAt s (r .require) ≡ []
+  text-none h = rw (i .unrequired (λ z. h (ap reading.readingStep (i .refusal ∙ requires frontends s z)))) (text-nowhere s)
 
   text-after : r .refusal ≡ refusal.Passed → textAt s (r .require) ≡ []
-  text-after p = text-none (λ e. let n : _≡_ {A = ℕ} 0 5 = ap reading.stepOf (sym p) ∙ e in omega arith)
+  text-after p = text-none (λ e. let n : _≡_ {A = ℕ} 0 5 = ap reading.readingStep (sym p) ∙ e in omega arith)
 
-  required-by : eqb (reading.stepOf (r .refusal)) 5 ≡ true → headRefusal s ≡ refusal.Require
-  required-by e = required frontends s (ap reading.stepOf (sym (i .refusal)) ∙ eqb-true (reading.stepOf (r .refusal)) 5 e)
+  required-by : eqb (reading.readingStep (r .refusal)) 5 ≡ true → headRefusal s ≡ refusal.Require
+  required-by e = required frontends s (ap reading.readingStep (sym (i .refusal)) ∙ eqb-true (reading.readingStep (r .refusal)) 5 e)
 
   -- which place of the request is repeated
   abbrev wordAt : Case → Span
@@ -212,7 +212,7 @@ module _ (frontends : ℕ) (s : List ℕ) (r : Request) (i : RequestIs frontends
       (λ x b. rw (b .1 (r .method), b .0) (sym (b .2 (firstValue (valuesOf 3 (headerLines s)))))) c n
   lines-told c session (follows-refused e n) =
       rw e
-      (refused-told (reading.stepOf (r .refusal)) (textAt s (wordAt (Reading (r .refusal)))) (firstValue (valuesOf 3 (headerLines s))) (replyTo (Reading (r .refusal)) r session)
+      (refused-told (reading.readingStep (r .refusal)) (textAt s (wordAt (Reading (r .refusal)))) (firstValue (valuesOf 3 (headerLines s))) (replyTo (Reading (r .refusal)) r session)
       (λ y. rw n (text-held s _ (r .require) (i .require (required-by y))))
       ∙ rw n)
 
@@ -228,13 +228,13 @@ module _ (frontends : ℕ) (s : List ℕ) (r : Request) (i : RequestIs frontends
   word-short c (follows-passed p n) = omega (arith, text-within s (wordAt c), asked-short frontends s (sym (i .refusal) ∙ p))
   word-short c (follows-refused e n) =
       rw (e, n)
-      (by-test (λ _. length (textAt s (r .require)) ≤ 2048) (eqb (reading.stepOf (r .refusal)) 5)
+      (by-test (λ _. length (textAt s (r .require)) ≤ 2048) (eqb (reading.readingStep (r .refusal)) 5)
       (λ y. let h = required-by y in
-      omega (arith, text-within s (r .require), head-short s (λ z. let k : _≡_ {A = ℕ} 5 1 = ap reading.stepOf (sym h ∙ z) in omega arith)))
-      (λ z. rw (text-none (eqb-false (reading.stepOf (r .refusal)) 5 z)) (omega arith)))
+      omega (arith, text-within s (r .require), head-short s (λ z. let k : _≡_ {A = ℕ} 5 1 = ap reading.readingStep (sym h ∙ z) in omega arith)))
+      (λ z. rw (text-none (eqb-false (reading.readingStep (r .refusal)) 5 z)) (omega arith)))
 
 -- EVERY ANSWER FITS
-status-read : (q : Refusal) → reading.statusOf q < 1000
+status-read : (q : Refusal) → reading.readingStatus q < 1000
 status-read refusal.Passed = omega arith
 status-read refusal.Layout = omega arith
 status-read refusal.CSeq = omega arith

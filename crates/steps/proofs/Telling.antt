@@ -26,7 +26,7 @@ use Rattle.stream.specs.Arrays.{kept, isFit, areFit, isIn}
 use Rattle.stream.proofs.Fitting.{all-in, fit-of, read-ranged}
 use Rattle.aim.specs.Query.{codeFrom, codeOf, textOf}
 use Rattle.aim.specs.Aim.{queryIn, codeIn}
-use Rattle.refusals.specs.Refusals.{_refuses_or_, stepOf}
+use Rattle.refusals.specs.Refusals.{_refuses_or_, readingStep}
 use Rattle.refusals.specs.declared.Refusal.{Refusal}
 use Rattle.refusals.specs.declared.Refusal.the-variants.{Passed, Layout}
 use Rattle.reader.specs.Fields.{transportOf, portsIn, portFrom}
@@ -146,4 +146,4 @@ unfolding requestRefusal
 request-short frontends s h = head-short s (λ e. h (rw e))
 
 pub asked-short : (frontends : ℕ) (s : List ℕ) → requestRefusal frontends s ≡ Passed → length s ≤ 2048
-asked-short frontends s p = request-short frontends s (λ e. let n : _≡_ {A = ℕ} 0 1 = ap stepOf (sym p ∙ e) in omega arith)
+asked-short frontends s p = request-short frontends s (λ e. let n : _≡_ {A = ℕ} 0 1 = ap readingStep (sym p ∙ e) in omega arith)

@@ -6,7 +6,7 @@ use lib.Dec.{ltb}
 use lib.ListN.{length}
 use Rattle.lines.specs.Lines.{headerLines}
 use Rattle.lines.specs.Headers.{valuesOf, firstValue}
-use Rattle.target.specs.Uri.{streamOf}
+use Rattle.target.specs.Uri.{streamNamed}
 use Rattle.aim.specs.Query.{codeFrom}
 use Rattle.aim.specs.Aim.{queryIn, codeIn, textIn}
 use Rattle.aim.specs.declared.Method.{Method}
@@ -38,7 +38,7 @@ abbrev pub askedOf : ℕ → List ℕ → Asked
 askedOf frontends s =
     record {
       method = methodOf s;
-      stream = codeFrom (streamOf (uriOf s));
+      stream = codeFrom (streamNamed (uriOf s));
       codes = codesIn frontends (uriOf s);
       query = ltb 0 (length (queryIn (uriOf s)));
       session = sessionOf (valuesOf 1 (headerLines s));

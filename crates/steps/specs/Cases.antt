@@ -9,7 +9,7 @@ use Rattle.steps.specs.declared.cases.Case.the-variants.{Passed, Reading
 
 abbrev pub ruleOf : Case → ℕ × ℕ
 ruleOf Passed = (0, 200)
-ruleOf (Reading refusal) = (reading.stepOf refusal, reading.statusOf refusal)
+ruleOf (Reading refusal) = (reading.readingStep refusal, reading.readingStatus refusal)
 ruleOf NoSession = (11, 454)
 ruleOf NotLive = (12, 404)
 ruleOf State = (13, 455)

@@ -6,17 +6,16 @@ use mathlib.Core.Bool.{cond}
 use mathlib.Core.List.{List}
 use lib.Dec.{eqb, ltb}
 use lib.ListN.{getD}
-use Rattle.scan.specs.Lists.{part}
+use Rattle.scan.specs.Lists.{_gives_or_, part}
 use Rattle.scan.specs.Found.{Holds}
 use Rattle.scan.specs.declared.Span.{Span}
 use Rattle.aim.specs.Query.{nowhere}
-use Rattle.refusals.specs.Refusals.{stepOf}
+use Rattle.refusals.specs.Refusals.{readingStep}
 use Rattle.aim.specs.declared.Method.{Method}
 use Rattle.aim.specs.declared.Method.the-variants.{Options, Setup, Play, Teardown, Other}
 use Rattle.refusals.specs.declared.Refusal.{Refusal}
 use Rattle.reader.specs.declared.Request.{Request}
 use Rattle.table.specs.declared.Session.{Session}
-use Rattle.answer.specs.Lines.{_gives_or_}
 use Rattle.answer.specs.declared.Kind.{Kind}
 use Rattle.answer.specs.declared.Kind.the-variants as kind
 use Rattle.answer.specs.declared.Answer.{Answer}
@@ -56,9 +55,9 @@ pub record Told (s : List ℕ) (r : Request) : Type 0 where
 -- WHICH ANSWER IT GETS
 abbrev pub refusedKind : Refusal → Kind
 refusedKind refusal =
-    eqb (stepOf refusal) 5 gives kind.Unsupported or
-    eqb (stepOf refusal) 6 gives kind.Public or
-    eqb (stepOf refusal) 10 gives kind.Allow or
+    eqb (readingStep refusal) 5 gives kind.Unsupported or
+    eqb (readingStep refusal) 6 gives kind.Public or
+    eqb (readingStep refusal) 10 gives kind.Allow or
     kind.Bare
 
 abbrev pub grantedKind : Method → Kind

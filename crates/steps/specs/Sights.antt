@@ -20,14 +20,14 @@ isAbsent Malformed = false
 isAbsent (Named n) = false
 
 -- the number that a Session header names; 0 where it names none
-abbrev pub numberOf : Sent → ℕ
-numberOf Absent = 0
-numberOf Malformed = 0
-numberOf (Named n) = n
+abbrev pub sessionNumber : Sent → ℕ
+sessionNumber Absent = 0
+sessionNumber Malformed = 0
+sessionNumber (Named n) = n
 
 -- the place of the open session that it names; 32 where there is none
 abbrev pub placeNamed : Sent → SatBox → ℕ
-placeNamed sent t = cond (eqb (numberOf sent) 0) 32 (placeOf (numberOf sent) (t .sessions))
+placeNamed sent t = cond (eqb (sessionNumber sent) 0) 32 (placeOf (sessionNumber sent) (t .sessions))
 
 -- the first of the two ports; 0 where the Transport is not of its form
 abbrev pub portOf : Transport → ℕ

@@ -3,19 +3,12 @@ use Prim.Native.Nat.{ℕ}
 use mathlib.Core.Bool.{Bool, true, false, not, _&&_, _||_}
 use lib.Dec.{eqb, ltb}
 use Rattle.refusals.specs.Refusals.{_refuses_or_}
+use Rattle.aim.specs.Aim.{methodNumber}
 use Rattle.aim.specs.declared.Method.{Method}
-use Rattle.aim.specs.declared.Method.the-variants.{Options, Setup, Play, Teardown, Other}
 use Rattle.table.specs.Table.{owns}
 use Rattle.steps.specs.declared.cases.Case.{Case}
 use Rattle.steps.specs.declared.cases.Case.the-variants.{Passed, NoSession, NotLive, State, NotOwner, Transport}
 use Rattle.steps.specs.declared.Sight.{Sight}
-
-abbrev pub methodNumber : Method → ℕ
-methodNumber Options = 0
-methodNumber Setup = 1
-methodNumber Play = 2
-methodNumber Teardown = 3
-methodNumber Other = 4
 
 abbrev pub isSetup : Method → Bool
 isSetup m = eqb (methodNumber m) 1
@@ -34,8 +27,8 @@ unfoldable pub lacksSession : Sight → Bool
 lacksSession v = not (isNamed v) && (not (v .absent) || needsSession (v .method))
 
 -- 12: "SETUP, PLAY or TEARDOWN names a stream not live"; "OPTIONS does not look it up"
-unfoldable pub isDead : Sight → Bool
-isDead v = looksUp (v .method) && (not (eqb (v .stream) 0) && eqb (v .frontend) 0)
+unfoldable pub namesDead : Sight → Bool
+namesDead v = looksUp (v .method) && (not (eqb (v .stream) 0) && eqb (v .frontend) 0)
 
 abbrev pub isElsewhere : Sight → Bool
 isElsewhere v = not (eqb (v .stream) (v .session .stream)) || (not (eqb (v .fe) 0) && not (eqb (v .fe) (v .frontend)))
@@ -55,7 +48,7 @@ lacksPort v = isSetup (v .method) && eqb (v .port) 0
 unfoldable pub tableCase : Sight → Case
 tableCase v =
     lacksSession v refuses NoSession or
-    isDead v refuses NotLive or
+    namesDead v refuses NotLive or
     isOutOfState v refuses State or
     isAnothers v refuses NotOwner or
     lacksPort v refuses Transport or

@@ -9,7 +9,7 @@ pub use cases::is_passed;
 pub use replies::answer_to;
 ghost use mathlib.Core.Path.{_≡_};
 ghost use Rattle.steps.specs.Handed.{askedBy};
-ghost use Rattle.steps.specs.Sights.{isAbsent, numberOf, portOf, sighted};
+ghost use Rattle.steps.specs.Sights.{isAbsent, sessionNumber, portOf, sighted};
 ghost use Rattle.steps.specs.Steps.{tableCase};
 use aim::Method;
 use reader::Request;
@@ -43,7 +43,7 @@ fn is_absent(sent: reader::Session) -> bool
 
 // The number that a Session header names; 0 where it names none, and no open session has it.
 pub fn number_of(sent: reader::Session) -> u32
-    ensures { λ r. ⌜ r ≡ numberOf sent ⌝ }
+    ensures { λ r. ⌜ r ≡ sessionNumber sent ⌝ }
 {
     match sent {
         reader::Session::Absent => 0,

@@ -1,6 +1,6 @@
 // The test of each of steps 11 to 15.
 ghost use mathlib.Core.Path.{_≡_};
-ghost use Rattle.steps.specs.Steps.{isSetup, needsSession, looksUp, lacksSession, isDead, isElsewhere, isOutOfState, isAnothers, lacksPort};
+ghost use Rattle.steps.specs.Steps.{isSetup, needsSession, looksUp, lacksSession, namesDead, isElsewhere, isOutOfState, isAnothers, lacksPort};
 use crate::Sight;
 use aim::Method;
 use table::SatBox;
@@ -51,7 +51,7 @@ pub(crate) fn lacks_session(v: Sight) -> bool
 
 // Step 12.
 pub(crate) fn is_dead(v: Sight) -> bool
-    ensures { λ r. ⌜ r ≡ isDead v ⌝ }
+    ensures { λ r. ⌜ r ≡ namesDead v ⌝ }
 {
     let method = v.method;
     looks_up(method) & (!(v.stream == 0) & (v.frontend == 0))

@@ -17,7 +17,7 @@ use Rattle.stream.specs.Values.{goTogether, merged}
 use Rattle.stream.specs.Pids.{added, removed, readPid, withNumber, numbersIn, obeyed, Choice, replaced, edited, chosen, areTooMany, choiceOf, isPadded, isChoice}
 use Rattle.stream.specs.Streams.{isSound}
 use Rattle.stream.specs.Merging.{chosenBy, changed, mergeOf}
-use Rattle.stream.specs.Arrays.{laidOut, areFit, isLow, rises, numbersOf, addedAll}
+use Rattle.stream.specs.Arrays.{laidOut, areFit, isLow, rises, numbersRead, addedAll}
 use Rattle.stream.specs.declared.Values.{Values}
 use Rattle.stream.specs.declared.Stream.{Stream}
 use Rattle.stream.specs.declared.Change.{Change}
@@ -33,9 +33,9 @@ with-low : (r : Read) (l : List ℕ) → ((v : ℕ) → r ≡ Value v → v ≤ 
 with-low (Value v) l h e = both (le-leb v 8191 (h v refl)) e
 with-low Nothing l h e = e
 
-numbers-of-low : (pieces : List (List ℕ)) → all isLow (numbersOf pieces) ≡ true
+numbers-of-low : (pieces : List (List ℕ)) → all isLow (numbersRead pieces) ≡ true
 numbers-of-low [] = refl
-numbers-of-low (piece ∷ pieces) = with-low (readPid piece) (numbersOf pieces) (λ v. pid-most piece) (numbers-of-low pieces)
+numbers-of-low (piece ∷ pieces) = with-low (readPid piece) (numbersRead pieces) (λ v. pid-most piece) (numbers-of-low pieces)
 
 pub numbers-low : (text : List ℕ) → all isLow (numbersIn text) ≡ true
 unfolding numbersIn

@@ -15,7 +15,7 @@ use Rattle.scan.proofs.Cuts.{cut-start, cut-turn, cut-end}
 use Rattle.digits.specs.declared.Read.{Read}
 use Rattle.digits.specs.declared.Read.the-variants.{Value, Nothing}
 use Rattle.stream.specs.Pids.{added, removed, readPid, withNumber, numbersIn, obeyed}
-use Rattle.stream.specs.Arrays.{withText, numbersOf, Front, Held, once}
+use Rattle.stream.specs.Arrays.{withText, numbersRead, Front, Held, once}
 use Rattle.stream.proofs.Edits.{front-same, held-front}
 
 -- the pieces before place p of the text have been obeyed, and b's first n PIDs are what they made of a's first `count`
@@ -23,12 +23,12 @@ pub record Obeying (edit : ℕ → List ℕ → List ℕ) (text a : List ℕ) (c
   pub long : length b ≡ 32
   pub small : n ≤ 32
   pub inside : p ≤ length text + 1
-  pub same : obeyed edit (numbersOf (cutFrom 44 p text)) (take n b) ≡ obeyed edit (numbersIn text) (take count a)
+  pub same : obeyed edit (numbersRead (cutFrom 44 p text)) (take n b) ≡ obeyed edit (numbersIn text) (take count a)
 
 pub obeying-start : (edit : ℕ → List ℕ → List ℕ) (text a : List ℕ) (count : ℕ) → count ≤ 32 → length a ≡ 32 → Obeying edit text a count a count 0
 unfolding numbersIn
 obeying-start edit text a count h k =
-    record { long = k; small = h; inside = omega arith; same = ap (λ ps. obeyed edit (numbersOf ps) (take count a)) (sym (cut-start 44 text)) }
+    record { long = k; small = h; inside = omega arith; same = ap (λ ps. obeyed edit (numbersRead ps) (take count a)) (sym (cut-start 44 text)) }
 
 one-more : (edit : ℕ → List ℕ → List ℕ) (r : Read) (ps l : List ℕ) → obeyed edit (withNumber r ps) l ≡ obeyed edit ps (once edit r l)
 one-more edit (Value v) ps l = refl
@@ -36,18 +36,18 @@ one-more edit Nothing ps l = refl
 
 module _ {edit : ℕ → List ℕ → List ℕ} {text a : List ℕ} {count : ℕ} {b : List ℕ} {n p : ℕ} (o : Obeying edit text a count b n p) where
   obeying-end : length text < p → obeyed edit (numbersIn text) (take count a) ≡ take n b
-  obeying-end h = sym (o .same) ∙ ap (λ ps. obeyed edit (numbersOf ps) (take n b)) (cut-end 44 p text h)
+  obeying-end h = sym (o .same) ∙ ap (λ ps. obeyed edit (numbersRead ps) (take n b)) (cut-end 44 p text h)
 
   module _ {e : ℕ} (h : p ≤ length text) (f : FirstFrom (is 44) text p e) where
-    turned : obeyed edit (numbersOf (cutFrom 44 (e + 1) text)) (once edit (readPid (part p e text)) (take n b)) ≡ obeyed edit (numbersIn text) (take count a)
+    turned : obeyed edit (numbersRead (cutFrom 44 (e + 1) text)) (once edit (readPid (part p e text)) (take n b)) ≡ obeyed edit (numbersIn text) (take count a)
     turned =
-        sym (one-more edit (readPid (part p e text)) (numbersOf (cutFrom 44 (e + 1) text)) (take n b))
-        ∙ ap (λ ps. obeyed edit (numbersOf ps) (take n b)) (sym (cut-turn 44 p text h (f .is))) ∙ o .same
+        sym (one-more edit (readPid (part p e text)) (numbersRead (cutFrom 44 (e + 1) text)) (take n b))
+        ∙ ap (λ ps. obeyed edit (numbersRead ps) (take n b)) (sym (cut-turn 44 p text h (f .is))) ∙ o .same
 
     obeying-more : {d : List ℕ} {m : ℕ} → length d ≡ 32 → m ≤ 32 → take m d ≡ once edit (readPid (part p e text)) (take n b) → Obeying edit text a count d m (e + 1)
     obeying-more l k q =
         let w : e ≤ max p (length text) = f .within in
-        record { long = l; small = k; inside = omega arith; same = ap (obeyed edit (numbersOf (cutFrom 44 (e + 1) text))) q ∙ turned }
+        record { long = l; small = k; inside = omega arith; same = ap (obeyed edit (numbersRead (cutFrom 44 (e + 1) text))) q ∙ turned }
 
 -- the text is not given
 module _ (text a : List ℕ) (count : ℕ) {code : ℕ} (h : count ≤ 32) (none : code ≡ 0) where
@@ -88,7 +88,7 @@ module _ {text a : List ℕ} {count : ℕ} {b : List ℕ} {n p : ℕ} (o : Obeyi
     pub adding-over : {code : ℕ} → (code ≡ 0 → ⊥) → 32 < m → Held (withText added code text (take count a)) d m
     adding-over {code} g k =
         let l : length (once added (readPid (part p e text)) (take n b)) ≤ length (obeyed added (numbersIn text) (take count a)) =
-        rw (← turned o h f) (all-longer (numbersOf (cutFrom 44 (e + 1) text)) (once added (readPid (part p e text)) (take n b)))
+        rw (← turned o h f) (all-longer (numbersRead (cutFrom 44 (e + 1) text)) (once added (readPid (part p e text)) (take n b)))
         in
         rw (ne-eqb code 0 g) (record { count = omega (arith, r .count); is = λ z. absurd (omega arith) })
 

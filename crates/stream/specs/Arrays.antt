@@ -67,8 +67,8 @@ abbrev pub removedAll : List ℕ → List ℕ → List ℕ
 removedAll ps l = obeyed removed ps l
 
 -- the numbers of some pieces of a text
-abbrev pub numbersOf : List (List ℕ) → List ℕ
-numbersOf pieces = foldr (λ piece l. withNumber (readPid piece) l) [] pieces
+abbrev pub numbersRead : List (List ℕ) → List ℕ
+numbersRead pieces = foldr (λ piece l. withNumber (readPid piece) l) [] pieces
 
 -- a PID stands at place k of a list, so that adding it changes nothing
 pub record There (p : ℕ) (l : List ℕ) (k : ℕ) : Type 0 where

@@ -14,8 +14,8 @@ use Rattle.stream.specs.Streams.{noStream, pastStream, isSound}
 use Rattle.stream.specs.declared.Stream.{Stream}
 use Rattle.stream.proofs.Soundness.{none-sound}
 use Rattle.table.specs.Counts.{bit, count}
-use Rattle.table.specs.Table.{noSession, has, isFree, isOpen, streamIn, withStream, isOn, owns}
-use Rattle.table.specs.Formed.{isProper, isSeated, isEmpty}
+use Rattle.table.specs.Table.{noSession, hasNumber, isFree, isOpen, streamIn, withStream, isOn, owns}
+use Rattle.table.specs.Formed.{isProper, isSeated, isBlank}
 use Rattle.table.specs.declared.Session.{Session}
 use Rattle.table.proofs.Counts.{bit-no, bit-yes, count-le, count-set, count-zero-at, count-set-le, count-set-same, cleared, count-cleared-le, count-cleared-same, count-cleared-none, all-cleared, once-set, getD-set-all, getD-set-alike, getD-set-here}
 use Rattle.table.proofs.Rules.{fed, Seats, Rows, AreProper, past-sound}
@@ -58,7 +58,7 @@ module _ (l : List Session) (m : List Stream) (r : Seats l m) where
   pub seats-freed : (i : ℕ) → getD l i noSession .owner ≡ 0 → Seats (set l i noSession) m
   seats-freed i own =
       record {
-        numbers = λ n g. omega (arith, count-set-le (has n) l i noSession, bit-no (zero-ne n g), r .numbers n g);
+        numbers = λ n g. omega (arith, count-set-le (hasNumber n) l i noSession, bit-no (zero-ne n g), r .numbers n g);
         homes = λ k g. omega (arith, count-set-le (isOn k) l i noSession, r .homes k g);
         owners = λ k g. count-set-same (owns k) l i noSession noSession (sym (owns-none k (getD l i noSession) own)) ∙ r .owners k g;
       }
@@ -89,13 +89,13 @@ module _ (l : List Session) (m : List Stream) (r : Seats l m) where
     pub seats-emptied : Seats (map (clear k) l) (set m k noStream)
     seats-emptied =
         record {
-          numbers = λ n h. omega (arith, less (has n) (zero-ne n h), r .numbers n h);
+          numbers = λ n h. omega (arith, less (hasNumber n) (zero-ne n h), r .numbers n h);
           homes = λ j h. homes-emptied j h (sames j k);
           owners = λ j h. owners-emptied j h (sames j k);
         }
 
   -- ONE COMES TO A FREE PLACE, with a number that nobody has
-  module _ (i : ℕ) (s : Session) (h : i < length l) (free : getD l i noSession .number ≡ 0) (new : count (has (s .number)) l ≡ 0) where
+  module _ (i : ℕ) (s : Session) (h : i < length l) (free : getD l i noSession .number ≡ 0) (new : count (hasNumber (s .number)) l ≡ 0) where
     owns-seated : (k : ℕ) → count (owns k) (set l i s) ≡ count (owns k) l + bit (owns k s)
     owns-seated k =
         let none : owns k (getD l i noSession) ≡ false = rw free in
@@ -142,7 +142,7 @@ module _ (l : List Session) (m : List Stream) (r : Seats l m) where
   pub seats-alike : (i : ℕ) (s : Session) → s .number ≡ getD l i noSession .number → s .stream ≡ getD l i noSession .stream → s .owner ≡ getD l i noSession .owner → Seats (set l i s) m
   seats-alike i s a b c =
       record {
-        numbers = λ n g. rw (count-set-same (has n) l i s noSession (rw a)) (r .numbers n g);
+        numbers = λ n g. rw (count-set-same (hasNumber n) l i s noSession (rw a)) (r .numbers n g);
         homes = λ k g. count-set-same (isOn k) l i s noSession (rw (a, b)) ∙ r .homes k g;
         owners = λ k g. count-set-same (owns k) l i s noSession (rw (a, b, c)) ∙ r .owners k g;
       }
@@ -197,7 +197,7 @@ module _ (frontends : ℕ) (ms : List Stream) (r : Rows frontends ms) where
       }
 
 pub none-proper : (clock : ℕ) → isProper clock noSession ≡ true
-unfolding isEmpty
+unfolding isBlank
 none-proper clock = refl
 
 module _ (clock : ℕ) (l : List Session) (r : AreProper clock l) where

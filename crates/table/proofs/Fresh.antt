@@ -6,7 +6,7 @@ use native.Mathlib.Omega.{arith}
 use borrow.Author.Tests.{le-leb}
 use Rattle.stream.specs.Values.{areNone}
 use Rattle.stream.specs.Streams.{isSound, areZero}
-use Rattle.table.specs.Formed.{areSizes, isEmpty, wellFormed}
+use Rattle.table.specs.Formed.{areSizes, isBlank, wellFormed}
 use Rattle.table.specs.Made.{settingsOf, fresh, madeOf}
 use Rattle.table.specs.declared.Settings.{Settings}
 use Rattle.table.specs.declared.SatBox.{SatBox}
@@ -23,5 +23,5 @@ module _ (s : Settings) {t : Bool} {b : SatBox} (e : t ≡ areSizes s) where
   refused n q = rw (sym e ∙ n, q)
 
 pub fresh-formed : (s : Settings) → areSizes s ≡ true → wellFormed (fresh s) ≡ true
-unfolding wellFormed isEmpty isSound areZero areNone
+unfolding wellFormed isBlank isSound areZero areNone
 fresh-formed s e = rw e (le-leb 0 (s .size) (omega arith))

@@ -14,8 +14,8 @@ use Rattle.stream.specs.Values.{areNone}
 use Rattle.stream.specs.Streams.{pastStream, isSound, areZero}
 use Rattle.stream.specs.declared.Stream.{Stream}
 use Rattle.table.specs.Counts.{count, areDistinct}
-use Rattle.table.specs.Table.{noSession, has, isFree, opens, streamOf, isDead, isOn, owns}
-use Rattle.table.specs.Formed.{areSizes, numbersOf, isHoused, areOwned, frontendsOf, isProper, isEmpty, fits, wellFormed}
+use Rattle.table.specs.Table.{noSession, hasNumber, isFree, openCount, streamOf, isDead, isOn, owns}
+use Rattle.table.specs.Formed.{areSizes, numbersOf, isHoused, areOwned, frontendsOf, isProper, isBlank, fits, wellFormed}
 use Rattle.table.specs.declared.Session.{Session}
 use Rattle.table.specs.declared.SatBox.{SatBox}
 use Rattle.table.proofs.Counts.{all-at, at-all, all-count, count-map, count-zero-at, distinct-count, count-distinct, is-number}
@@ -26,7 +26,7 @@ fed f m = eqb (m .frontend) f
 
 -- the rules of the sessions l, where the streams by their IDs are ms; at 0 there is none
 pub record Seats (l : List Session) (ms : List Stream) : Type 0 where
-  pub numbers : (n : ℕ) → (n ≡ 0 → ⊥) → count (has n) l ≤ 1
+  pub numbers : (n : ℕ) → (n ≡ 0 → ⊥) → count (hasNumber n) l ≤ 1
   pub homes : (k : ℕ) → getD ms k pastStream .frontend ≡ 0 → count (isOn k) l ≡ 0
   pub owners : (k : ℕ) → (getD ms k pastStream .frontend ≡ 0 → ⊥) → count (owns k) l ≡ 1
 
@@ -53,7 +53,7 @@ pub record WellFormed (t : SatBox) : Type 0 where
   pub seats : Seats (t .sessions) (pastStream ∷ t .streams)
   pub rows : Rows (t .settings .frontends) (t .streams)
   pub proper : AreProper (t .clock) (t .sessions)
-  pub fits : Fits (t .held) (t .settings .size) (opens t)
+  pub fits : Fits (t .held) (t .settings .size) (openCount t)
 
 -- an open session of a live stream is on no dead one, and one that is on no dead stream is housed
 housed-off : (t : SatBox) (k : ℕ) → streamOf t k .frontend ≡ 0 → (s : Session) → isHoused t s ≡ true → Case (isFree s) → Case (eqb (s .stream) k) → isOn k s ≡ false
@@ -117,7 +117,7 @@ module _ (t : SatBox) where
               feeds = λ n z. rw (sym (count-map (is-number n) (λ m. m .frontend) (t .streams))) (distinct-count (frontendsOf (t .streams)) (f .0) n z);
               sound = λ k. all-at (isSound (t .settings .frontends)) (t .streams) k pastStream (past-sound (t .settings .frontends)) (g .0);
             };
-        proper = λ k. all-at (isProper (t .clock)) (t .sessions) k noSession (unfold isEmpty in refl) (h .0);
+        proper = λ k. all-at (isProper (t .clock)) (t .sessions) k noSession (unfold isBlank in refl) (h .0);
         fits = record { whole = eqb-true _ _ (i .0); bound = leb-true _ _ (i .1) };
       }
 

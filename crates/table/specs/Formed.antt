@@ -9,7 +9,7 @@ use Rattle.journal.specs.Bytes.{recordSize}
 use Rattle.stream.specs.Streams.{isSound}
 use Rattle.stream.specs.declared.Stream.{Stream}
 use Rattle.table.specs.Counts.{count, areDistinct}
-use Rattle.table.specs.Table.{isFree, opens, streamOf, isDead, isLive, owns}
+use Rattle.table.specs.Table.{isFree, openCount, streamOf, isDead, isLive, owns}
 use Rattle.table.specs.declared.Session.{Session}
 use Rattle.table.specs.declared.Settings.{Settings}
 use Rattle.table.specs.declared.SatBox.{SatBox}
@@ -40,15 +40,15 @@ unfoldable pub isSeated : ℕ → Session → Bool
 isSeated clock s = isBetween 1024 65534 (s .port) && eqb (s .port % 2) 0 && leb (s .owner) 1 && leb (s .playing) 1 && leb (s .last) clock
 
 -- "unused places all zeros"
-unfoldable pub isEmpty : Session → Bool
-isEmpty s = eqb (s .address) 0 && eqb (s .last) 0 && eqb (s .port) 0 && eqb (s .stream) 0 && eqb (s .owner) 0 && eqb (s .playing) 0
+unfoldable pub isBlank : Session → Bool
+isBlank s = eqb (s .address) 0 && eqb (s .last) 0 && eqb (s .port) 0 && eqb (s .stream) 0 && eqb (s .owner) 0 && eqb (s .playing) 0
 
 abbrev pub isProper : ℕ → Session → Bool
-isProper clock s = cond (isFree s) (isEmpty s) (isSeated clock s)
+isProper clock s = cond (isFree s) (isBlank s) (isSeated clock s)
 
 -- "bytes held a multiple of 16; bytes held plus 16 per open session at most C"
 abbrev pub fits : SatBox → Bool
-fits t = eqb (t .held % recordSize) 0 && leb (t .held + recordSize * opens t) (t .settings .size)
+fits t = eqb (t .held % recordSize) 0 && leb (t .held + recordSize * openCount t) (t .settings .size)
 
 -- all of them; a stream's own rules are `isSound`
 unfoldable pub wellFormed : SatBox → Bool

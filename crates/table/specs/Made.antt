@@ -13,13 +13,13 @@ use Rattle.table.specs.declared.Outcome.the-variants.{Done, Refused}
 use Rattle.table.specs.declared.Made.{Made}
 
 -- document 01's number of each refusal
-abbrev pub numberOf : Refusal → ℕ
-numberOf Table = 1
-numberOf Journal = 2
-numberOf Answer = 3
-numberOf Buffer = 4
-numberOf Frontend = 5
-numberOf Sizes = 6
+abbrev pub refusalNumber : Refusal → ℕ
+refusalNumber Table = 1
+refusalNumber Journal = 2
+refusalNumber Answer = 3
+refusalNumber Buffer = 4
+refusalNumber Frontend = 5
+refusalNumber Sizes = 6
 
 -- what is fixed when a box is made: F and C
 abbrev pub settingsOf : ℕ → ℕ → Settings

@@ -9,7 +9,7 @@ use Rattle.stream.specs.Pids.{isChoice}
 use Rattle.stream.specs.Streams.{noStream, blank, areZero, isSound}
 use Rattle.stream.specs.declared.Stream.{Stream}
 use Rattle.table.specs.Table.{noSession}
-use Rattle.table.specs.Formed.{isSeated, isEmpty, wellFormed}
+use Rattle.table.specs.Formed.{isSeated, isBlank, wellFormed}
 use Rattle.table.specs.Made.{settingsOf, fresh, madeOf}
 use Rattle.table.specs.declared.Refusal.the-variants.{Sizes}
 use Rattle.table.specs.declared.Outcome.the-variants.{Done, Refused}
@@ -76,11 +76,11 @@ pub record IllFormed : Type 0 where
   pub not-zeros : wellFormed (box 0 10 (remnant ∷ []) []) ≡ false
 
 pub well-formed : WellFormed
-unfolding wellFormed isSeated isEmpty isSound areZero areNone areInRange goTogether isChoice
+unfolding wellFormed isSeated isBlank isSound areZero areNone areInRange goTogether isChoice
 well-formed = record { fresh-box = refl; joined = refl; expired = refl; third = refl; filled = refl }
 
 pub ill-formed : IllFormed
-unfolding wellFormed isSeated isEmpty isSound areZero areNone areInRange goTogether isChoice
+unfolding wellFormed isSeated isBlank isSound areZero areNone areInRange goTogether isChoice
 ill-formed =
     record {
       overfilled = refl;

@@ -15,17 +15,17 @@ abbrev pub noSession : Session
 noSession = record { number = 0; address = 0; last = 0; port = 0; stream = 0; owner = 0; playing = 0 }
 
 -- a session has a number; an open one has none of 0
-abbrev pub has : ℕ → Session → Bool
-has n s = eqb (s .number) n
+abbrev pub hasNumber : ℕ → Session → Bool
+hasNumber n s = eqb (s .number) n
 
 abbrev pub isFree : Session → Bool
-isFree s = has 0 s
+isFree s = hasNumber 0 s
 
 abbrev pub isOpen : Session → Bool
 isOpen s = not (isFree s)
 
-abbrev pub opens : SatBox → ℕ
-opens t = count isOpen (t .sessions)
+abbrev pub openCount : SatBox → ℕ
+openCount t = count isOpen (t .sessions)
 
 abbrev pub sessionAt : SatBox → ℕ → Session
 sessionAt t i = getD (t .sessions) i noSession

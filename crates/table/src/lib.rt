@@ -6,7 +6,7 @@ pub use numbers::are_distinct;
 pub use numbers::is_among;
 ghost use mathlib.Core.Path.{_≡_};
 ghost use Rattle.table.specs.Formed.{areSizes};
-ghost use Rattle.table.specs.Made.{numberOf, madeOf};
+ghost use Rattle.table.specs.Made.{refusalNumber, madeOf};
 use journal::Record;
 use stream::Stream;
 
@@ -156,7 +156,7 @@ fn empty(settings: Settings) -> SatBox
 
 // Document 01's number of a refusal.
 pub fn number(refusal: Refusal) -> u8
-    ensures { λ r. ⌜ r ≡ numberOf refusal ⌝ }
+    ensures { λ r. ⌜ r ≡ refusalNumber refusal ⌝ }
 {
     match refusal {
         Refusal::Table => 1,

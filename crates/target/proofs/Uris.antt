@@ -24,8 +24,8 @@ use Rattle.digits.specs.Reading.{isValue, atLeast, readNumber}
 use Rattle.digits.specs.declared.Zeros.the-variants.{Refused}
 use Rattle.digits.specs.declared.Read.{Read}
 use Rattle.digits.specs.declared.Read.the-variants.{Value, Nothing}
-use Rattle.target.specs.Uri.{startsWith, restOf, isPort, streamIn, hostOf, isUri}
-use Rattle.target.specs.Steps.{question, slash, colon, isHost, UriIs, noUri, isPortNumber, hostEnd}
+use Rattle.target.specs.Uri.{startsWith, restOf, isPort, streamOfPath, hostOf, isUri}
+use Rattle.target.specs.Steps.{question, slash, portColon, isHost, UriIs, noUri, isPortNumber, hostEnd}
 use Rattle.target.specs.declared.Uri.{Uri}
 
 -- A TEXT THAT STARTS WITH ANOTHER is no shorter
@@ -68,10 +68,10 @@ module _ {a : List ℕ} {k : ℕ} (f : FirstOf (is 58) a k) {t : Bool} (e : t �
     port-not n = sym (end-port ∙ rw (n, and-false (ltb 0 k)))
 
 -- a host that ends past 0 is one
-host-is : (a : List ℕ) {h : ℕ} → h ≡ hostEnd a → (h ≡ 0 → ⊥) → (isHost a ≡ true) × (isPort a ≡ true) × (h ≡ colon a)
+host-is : (a : List ℕ) {h : ℕ} → h ≡ hostEnd a → (h ≡ 0 → ⊥) → (isHost a ≡ true) × (isPort a ≡ true) × (h ≡ portColon a)
 host-is a {h} e n = go (isHost a) (isPort a) e
   where
-    go : (x y : Bool) → h ≡ cond (x && y) (colon a) 0 → (x ≡ true) × (y ≡ true) × (h ≡ colon a)
+    go : (x y : Bool) → h ≡ cond (x && y) (portColon a) 0 → (x ≡ true) × (y ≡ true) × (h ≡ portColon a)
     go true true q = (refl, refl, q)
     go true false q = absurd (n q)
     go false y q = absurd (n q)
@@ -79,34 +79,34 @@ host-is a {h} e n = go (isHost a) (isPort a) e
 host-none : (a : List ℕ) {h : ℕ} → h ≡ hostEnd a → h ≡ 0 → isHost a && isPort a ≡ false
 host-none a {h} e z =
     ap (λ t. t && isPort a) named
-    ∙ go (ltb 0 (colon a)) (all isName (part 0 (colon a) a)) (isPort a) refl (ap (λ t. cond (t && isPort a) (colon a) 0) (sym named) ∙ sym e ∙ z)
+    ∙ go (ltb 0 (portColon a)) (all isName (part 0 (portColon a) a)) (isPort a) refl (ap (λ t. cond (t && isPort a) (portColon a) 0) (sym named) ∙ sym e ∙ z)
   where
-    named : isHost a ≡ ltb 0 (colon a) && all isName (part 0 (colon a) a)
+    named : isHost a ≡ ltb 0 (portColon a) && all isName (part 0 (portColon a) a)
     named = named-by 58 a (record { is = refl; within = first-within (is 58) a })
 
-    go : (w x y : Bool) → ltb 0 (colon a) ≡ w → cond ((w && x) && y) (colon a) 0 ≡ 0 → (w && x) && y ≡ false
-    go true true true l q = let m : 0 < colon a = ltb-true 0 (colon a) l in absurd (omega arith)
+    go : (w x y : Bool) → ltb 0 (portColon a) ≡ w → cond ((w && x) && y) (portColon a) 0 ≡ 0 → (w && x) && y ≡ false
+    go true true true l q = let m : 0 < portColon a = ltb-true 0 (portColon a) l in absurd (omega arith)
     go true true false l q = refl
     go true false y l q = refl
     go false x y l q = refl
 
 -- THE PATH
-pub stream-none : (p : List ℕ) → length p ≡ 0 → Value 0 ≡ streamIn p
-unfolding streamIn
+pub stream-none : (p : List ℕ) → length p ≡ 0 → Value 0 ≡ streamOfPath p
+unfolding streamOfPath
 stream-none [] h = refl
 stream-none (x ∷ p) h = absurd (omega arith)
 
 stream-by : (p : List ℕ) → (length p ≡ 0 → ⊥) → {t : Bool} → t ≡ startsWith (text "stream=") p
-    → streamIn p ≡ cond t (atLeast 1 (readNumber Refused 5 65535 (drop 7 p))) Nothing
-unfolding streamIn
+    → streamOfPath p ≡ cond t (atLeast 1 (readNumber Refused 5 65535 (drop 7 p))) Nothing
+unfolding streamOfPath
 stream-by [] n e = absurd (n refl)
 stream-by (x ∷ p) n e = rw e
 
 module _ (p : List ℕ) (n : length p ≡ 0 → ⊥) {t : Bool} (e : t ≡ startsWith (text "stream=") p) where
-  pub stream-not : not t ≡ true → Nothing ≡ streamIn p
+  pub stream-not : not t ≡ true → Nothing ≡ streamOfPath p
   stream-not y = sym (stream-by p n e ∙ rw (not-true t y))
 
-  pub stream-is : not t ≡ false → {v : Read} → v ≡ atLeast 1 (readNumber Refused 5 65535 (part 7 (length p) p)) → v ≡ streamIn p
+  pub stream-is : not t ≡ false → {v : Read} → v ≡ atLeast 1 (readNumber Refused 5 65535 (part 7 (length p) p)) → v ≡ streamOfPath p
   stream-is y {v} q = q ∙ rw (part-rest 7 (length p) p (omega arith)) (sym (stream-by p n e ∙ rw (not-false t y)))
 
 -- THE WHOLE
@@ -161,7 +161,7 @@ module _ {u : List ℕ} {q k : ℕ} (a : Apart u q k) where
   path-is : path q k u ≡ drop (slash (restOf u) + 1) (restOf u)
   path-is = part-rest (k + 1) (length (rest q u)) (rest q u) (omega arith) ∙ rw (a .slash .is, rest-is)
 
-  by-parts : isUri u ≡ (ltb k (length (rest q u)) && (isHost (front q k u) && (isPort (front q k u) && isValue (streamIn (path q k u)))))
+  by-parts : isUri u ≡ (ltb k (length (rest q u)) && (isHost (front q k u) && (isPort (front q k u) && isValue (streamOfPath (path q k u)))))
   unfolding isUri
   by-parts = rw (path-is, a .slash .is, rest-is) (rw (rw (a .ends .is) at (a .scheme)))
 
@@ -173,15 +173,15 @@ module _ {u : List ℕ} {q k : ℕ} (a : Apart u q k) where
     no-host i z =
         other i (by-parts ∙ rw (lt-ltb k (length (rest q u)) l) (none (isHost (front q k u)) (isPort (front q k u)) (host-none (front q k u) e z)))
       where
-        none : (x y : Bool) → x && y ≡ false → x && (y && isValue (streamIn (path q k u))) ≡ false
+        none : (x y : Bool) → x && y ≡ false → x && (y && isValue (streamOfPath (path q k u))) ≡ false
         none true y z = rw z
         none false y z = refl
 
     module _ (n : h ≡ 0 → ⊥) where
       pub host-uri : Holds u (hostOf u) 7 (7 + h)
       host-uri =
-          let b : h ≡ colon (front q k u) = host-is (front q k u) e n .2 in
-          let x : colon (front q k u) ≤ length (front q k u) = first-within (is 58) (front q k u) in
+          let b : h ≡ portColon (front q k u) = host-is (front q k u) e n .2 in
+          let x : portColon (front q k u) ≤ length (front q k u) = first-within (is 58) (front q k u) in
           let i : part 0 h (front q k u) ≡ hostOf u = rw (b, a .slash .is, rest-is) in
           let c : Holds (front q k u) (hostOf u) 0 h = record { order = omega arith; within = omega arith; is = i } in
           let d : Holds (rest q u) (hostOf u) 0 h = rw (zero-add h) at (holds-inside 0 k (rest q u) refl (omega arith) (a .slash .within) c) in
@@ -189,7 +189,7 @@ module _ {u : List ℕ} {q k : ℕ} (a : Apart u q k) where
           let g : Holds (part 0 q u) (hostOf u) 7 (7 + h) = holds-inside 7 (length (part 0 q u)) (part 0 q u) refl w (omega arith) d in
           rw (zero-add (7 + h)) at (holds-inside 0 q u refl (omega arith) (a .ends .within) g)
 
-      module _ {v : Read} (p : v ≡ streamIn (path q k u)) where
+      module _ {v : Read} (p : v ≡ streamOfPath (path q k u)) where
         by-stream : isUri u ≡ isValue v
         by-stream =
             let b = host-is (front q k u) e n in
@@ -203,7 +203,7 @@ module _ {u : List ℕ} {q k : ℕ} (a : Apart u q k) where
         uri-is {m} z =
             record {
               sound = sym (by-stream ∙ ap isValue z);
-              stream = λ t. sym z ∙ p ∙ ap streamIn path-is;
+              stream = λ t. sym z ∙ p ∙ ap streamOfPath path-is;
               host = λ t. host-uri;
               starts = λ t. refl;
               asked = λ t. ap (λ i. ltb i (length u)) (a .ends .is);

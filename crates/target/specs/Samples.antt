@@ -8,7 +8,7 @@ use Rattle.scan.specs.Lists.{all}
 use Rattle.digits.specs.Reading.{readNumber}
 use Rattle.digits.specs.declared.Read.the-variants.{Value}
 use Rattle.target.specs.Line.{isThree, linePart}
-use Rattle.target.specs.Uri.{hasQuery, queryOf, streamIn, streamOf, hostOf, isUri}
+use Rattle.target.specs.Uri.{hasQuery, queryOf, streamOfPath, streamNamed, hostOf, isUri}
 
 abbrev isUriText : String → Bool
 isUriText s = isUri (text s)
@@ -24,7 +24,7 @@ uris : all isUriText
     ∷ "rtsp://h/stream=65535"
     ∷ [])
     ≡ true
-unfolding isUri streamIn readNumber
+unfolding isUri streamOfPath readNumber
 uris = refl
 
 others : all (λ s. not (isUriText s))
@@ -52,15 +52,15 @@ others : all (λ s. not (isUriText s))
     ∷ "rtsp://h/stream=1/"
     ∷ [])
     ≡ true
-unfolding isUri streamIn readNumber
+unfolding isUri streamOfPath readNumber
 others = refl
 
-stream : streamOf (text "rtsp://10.0.0.5:554/stream=7?fe=1") ≡ Value 7
-unfolding streamIn readNumber
+stream : streamNamed (text "rtsp://10.0.0.5:554/stream=7?fe=1") ≡ Value 7
+unfolding streamOfPath readNumber
 stream = refl
 
-no-stream : streamOf (text "rtsp://10.0.0.5/?freq=1") ≡ Value 0
-unfolding streamIn
+no-stream : streamNamed (text "rtsp://10.0.0.5/?freq=1") ≡ Value 0
+unfolding streamOfPath
 no-stream = refl
 
 host : hostOf (text "rtsp://10.0.0.5:554/stream=7?fe=1") ≡ text "10.0.0.5"

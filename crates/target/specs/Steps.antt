@@ -5,7 +5,7 @@ use mathlib.Core.Bool.{Bool, false, cond, _&&_, true}
 use mathlib.Core.List.{List}
 use Rattle.digits.specs.Reading.{readNumber, atLeast, isValue}
 use Rattle.digits.specs.declared.Zeros.the-variants.{Allowed}
-use Rattle.target.specs.Uri.{isPort, hasQuery, hostOf, isUri, queryOf, streamOf}
+use Rattle.target.specs.Uri.{isPort, hasQuery, hostOf, isUri, queryOf, streamNamed}
 use Rattle.target.specs.declared.Parts.{Parts}
 use Rattle.target.specs.declared.Uri.{Uri}
 use mathlib.Core.Path.{_≡_}
@@ -15,7 +15,7 @@ use Rattle.target.specs.Line.{isThree, linePart}
 use Rattle.digits.specs.declared.Read.the-variants.{Value}
 use Rattle.scan.specs.Lists.{first}
 use Rattle.scan.specs.Cut.{is, before}
-use Rattle.scan.specs.Classes.{isNamed}
+use Rattle.scan.specs.Classes.{areNameBytes}
 
 -- the answer to a line that has not three parts
 abbrev pub noParts : Parts
@@ -32,12 +32,12 @@ question u = first (is 63) u
 abbrev pub slash : List ℕ → ℕ
 slash rest = first (is 47) rest
 
-abbrev pub colon : List ℕ → ℕ
-colon a = first (is 58) a
+abbrev pub portColon : List ℕ → ℕ
+portColon a = first (is 58) a
 
 -- "one or more letters, digits, dots, hyphens"
 abbrev pub isHost : List ℕ → Bool
-isHost a = isNamed (before 58 a)
+isHost a = areNameBytes (before 58 a)
 
 -- "port 1 to 65535 in 1 to 5 digits", without its colon
 abbrev pub isPortNumber : List ℕ → Bool
@@ -45,7 +45,7 @@ isPortNumber p = isValue (atLeast 1 (readNumber Allowed 5 65535 p))
 
 -- where the host ends in a host with an optional port; 0, where no host ends, if the text is something else
 abbrev pub hostEnd : List ℕ → ℕ
-hostEnd a = cond (isHost a && isPort a) (colon a) 0
+hostEnd a = cond (isHost a && isPort a) (portColon a) 0
 
 -- whether there are three parts, and then where they stand: around the two spaces
 pub record PartsAre (line : List ℕ) (r : Parts) : Type 0 where
@@ -58,7 +58,7 @@ pub record PartsAre (line : List ℕ) (r : Parts) : Type 0 where
 -- whether the URI has its form, and then the stream it names (0 for none), where its host and its query stand, and whether it has one
 pub record UriIs (u : List ℕ) (r : Uri) : Type 0 where
   pub sound : r .sound ≡ isUri u
-  pub stream : r .sound ≡ true → Value (r .stream) ≡ streamOf u
+  pub stream : r .sound ≡ true → Value (r .stream) ≡ streamNamed u
   pub host : r .sound ≡ true → Holds u (hostOf u) (r .host .start) (r .host .end)
   pub starts : r .sound ≡ true → r .host .start ≡ 7
   pub asked : r .sound ≡ true → r .asked ≡ hasQuery u

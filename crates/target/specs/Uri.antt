@@ -6,7 +6,7 @@ use mathlib.Core.List.{List}
 use lib.ListN.{length, drop}
 use Rattle.scan.specs.Text.{text}
 use Rattle.scan.specs.Lists.{part}
-use Rattle.scan.specs.Classes.{isNamed}
+use Rattle.scan.specs.Classes.{areNameBytes}
 use Rattle.scan.specs.Compare.{areAlike}
 use Rattle.scan.specs.Cut.{before, after, has}
 use Rattle.scan.specs.Trim.{isEmpty}
@@ -38,15 +38,15 @@ abbrev pub isPort : List ℕ → Bool
 isPort a = cond (has 58 a) (isValue (atLeast 1 (readNumber Allowed 5 65535 (after 58 a)))) true
 
 -- "optional `stream=` with 1 to 65535 without leading zero": 0 where it is left out
-unfoldable pub streamIn : List ℕ → Read
-streamIn path =
+unfoldable pub streamOfPath : List ℕ → Read
+streamOfPath path =
     cond (isEmpty path) (Value 0) (cond (startsWith (text "stream=") path) (atLeast 1 (readNumber Refused 5 65535 (drop 7 path))) Nothing)
 
-abbrev pub streamOf : List ℕ → Read
-streamOf u = streamIn (after 47 (restOf u))
+abbrev pub streamNamed : List ℕ → Read
+streamNamed u = streamOfPath (after 47 (restOf u))
 
 -- the form of the URI, what follows `?` aside
 unfoldable pub isUri : List ℕ → Bool
 isUri u =
     startsWith (text "rtsp://") (before 63 u)
-    && (has 47 (restOf u) && (isNamed (hostOf u) && (isPort (before 47 (restOf u)) && isValue (streamOf u))))
+    && (has 47 (restOf u) && (areNameBytes (hostOf u) && (isPort (before 47 (restOf u)) && isValue (streamNamed u))))

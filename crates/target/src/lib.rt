@@ -3,7 +3,7 @@
 // `/`, for `:` and by their class), and those of its query never. No byte is copied.
 ghost use mathlib.Core.Path.{_≡_};
 ghost use Rattle.target.specs.Steps.{PartsAre, noParts, noUri, isPortNumber, hostEnd, UriIs};
-ghost use Rattle.target.specs.Uri.{startsWith, streamIn};
+ghost use Rattle.target.specs.Uri.{startsWith, streamOfPath};
 use digits::Read;
 use digits::Zeros;
 use scan::Case;
@@ -100,7 +100,7 @@ fn host_end(a: &[u8]) -> usize
 
 // The stream that a path names, 0 where the path is empty.
 fn stream_in(path: &[u8]) -> Read
-    ensures { λ r. ⌜ r ≡ streamIn (now (path .entry)) ⌝ }
+    ensures { λ r. ⌜ r ≡ streamOfPath (now (path .entry)) ⌝ }
 {
     if path.len() == 0 {
         return Read::Value(0);

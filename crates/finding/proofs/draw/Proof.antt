@@ -7,7 +7,7 @@ use Prim.Native.Nat.{ℕ, _-_}
 use native.Mathlib.Omega.{arith}
 use lib.ListN.{length}
 use borrow.Author.Tests.{eq-eqb, ne-eqb}
-use Rattle.table.specs.Table.{noSession, has}
+use Rattle.table.specs.Table.{noSession, hasNumber}
 use Rattle.finding.specs.Finding.{isTaken}
 use Rattle.table.proofs.Places.{known}
 use Rattle.table.proofs.NumberLaws.{Lacking, lacking-start, lacking-more, lacking-hit, lacking-end}
@@ -16,7 +16,7 @@ use Rattle.finding.proofs.draw.Statement.{statement}
 use Rattle.finding.proofs.draw.Tie as tie
 
 abbrev Inv-loop : tie.InvT-loop
-Inv-loop draw t n i₀ i = Lacking (has n) (t .sessions) i
+Inv-loop draw t n i₀ i = Lacking (hasNumber n) (t .sessions) i
 
 abbrev μ-loop : tie.MeasureT-loop
 μ-loop draw t n i₀ i = 32 - i
@@ -39,7 +39,7 @@ was-taken c =
     let n = c .before .before .draw .n in
     ⊎-elim
     (λ w. taken-zero l n (w .left))
-    (λ w. taken-open l n (sym (lacking-hit (has n) noSession (c .before .loop .inv) (omega arith) (eq-eqb _ _ (w .2 .taken)))))
+    (λ w. taken-open l n (sym (lacking-hit (hasNumber n) noSession (c .before .loop .inv) (omega arith) (eq-eqb _ _ (w .2 .taken)))))
     (c .loop-test .came)
 
 draw-less : tie.Need-draw-less Inv-loop μ-loop Inv-draw μ-draw
@@ -55,7 +55,7 @@ returns c =
     let at = c .before .before in
     let d = at .before .draw in
     drawing-end (d .inv .1 .1)
-    (taken-not (at .before .before .args .t1 .sessions) (d .n) (c .before .loop-test .taken) (sym (lacking-end (has (d .n)) (at .loop .inv) (omega arith))))
+    (taken-not (at .before .before .args .t1 .sessions) (d .n) (c .before .loop-test .taken) (sym (lacking-end (hasNumber (d .n)) (at .loop .inv) (omega arith))))
 
 pub draw-spec : {M : Type 1} → statement M
 draw-spec =

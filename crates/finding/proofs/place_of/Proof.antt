@@ -5,13 +5,13 @@ use native.Mathlib.Omega.{arith}
 use lib.ListN.{length}
 use borrow.Author.Tests.{eq-eqb, ne-eqb}
 use Rattle.scan.proofs.Loops.{Seeking, seeking-start, seeking-hit, seeking-more, seeking-end}
-use Rattle.table.specs.Table.{noSession, has}
+use Rattle.table.specs.Table.{noSession, hasNumber}
 use Rattle.table.proofs.Places.{known}
 use Rattle.finding.proofs.place_of.Statement.{statement}
 use Rattle.finding.proofs.place_of.Tie as tie
 
 abbrev Inv-loop : tie.InvT-loop
-Inv-loop n t place₀ place = (length (t .sessions) ≡ 32) × Seeking (has n) (t .sessions) place
+Inv-loop n t place₀ place = (length (t .sessions) ≡ 32) × Seeking (hasNumber n) (t .sessions) place
 
 abbrev μ-loop : tie.MeasureT-loop
 μ-loop n t place₀ place = 32 - place
@@ -19,7 +19,7 @@ abbrev μ-loop : tie.MeasureT-loop
 loop-again : tie.Need-loop-again Inv-loop μ-loop
 loop-again c =
     let l = c .before .before .loop .inv in
-    (l .0, seeking-more (has _) noSession (l .1) (omega arith) refl (ne-eqb _ _ (c .if1 .left)))
+    (l .0, seeking-more (hasNumber _) noSession (l .1) (omega arith) refl (ne-eqb _ _ (c .if1 .left)))
 
 pub place-of-spec : {M : Type 1} → statement M
 place-of-spec =
@@ -30,7 +30,7 @@ place-of-spec =
     (λ c. (search known, seeking-start _ _))
     (λ c. search known)
     (λ c. search known)
-    (λ c. seeking-hit (has _) noSession (c .before .before .loop .inv .1) (omega arith) refl (eq-eqb _ _ (c .if1 .taken)))
+    (λ c. seeking-hit (hasNumber _) noSession (c .before .before .loop .inv .1) (omega arith) refl (eq-eqb _ _ (c .if1 .taken)))
     (λ c. search known)
     (λ c. search known)
     loop-again

@@ -1,11 +1,11 @@
 -- `formed::is_empty` meets its contract. Assumes nothing.
 use borrow.Author.Needs.{needs}
-use Rattle.table.specs.Formed.{isEmpty}
+use Rattle.table.specs.Formed.{isBlank}
 use Rattle.formed.proofs.is_empty.Statement.{statement}
 use Rattle.formed.proofs.is_empty.Tie as tie
 
 returns : tie.Need-returns
-unfolding isEmpty
+unfolding isBlank
 returns c = search needs
 
 pub is-empty-spec : {M : Type 1} → statement M

@@ -13,7 +13,7 @@ use Rattle.table.specs.declared.Outcome.the-variants.{Done}
 use Rattle.table.proofs.Fresh.{fresh-formed}
 use Rattle.satbox.specs.Requests.{requestOutcome, replied, repliedInto}
 use Rattle.satbox.specs.declared.Replied.{Replied}
-use Rattle.request.specs.Program.{answered}
+use Rattle.request.specs.Program.{printed}
 use Rattle.request.proofs.answer.Statement.{statement}
 use Rattle.request.proofs.answer.Tie as tie
 
@@ -30,9 +30,9 @@ module _ (s b j : List ℕ) (h : length j ≡ 1024) (g : 4096 ≤ length b) wher
 
   answers : {m : Made} {x : Replied} {d : List ℕ} → m ≡ madeOf (settingsOf 2 1024) → x ≡ replied s 0 0xC0A8B227 1 (m .satbox) b j
       → d ≡ repliedInto s 0 0xC0A8B227 1 (m .satbox) b j
-      → ((x .count ≡ length (answered s)) × (d ≡ answered s ++ drop (x .count) b)) × Counts (x .count) d
+      → ((x .count ≡ length (printed s)) × (d ≡ printed s ++ drop (x .count) b)) × Counts (x .count) d
   unfolding madeOf replied repliedInto
-  answers e p q = rw (q, p, e, done) ((refl, refl), counts (answered s) (drop (length (answered s)) b))
+  answers e p q = rw (q, p, e, done) ((refl, refl), counts (printed s) (drop (length (printed s)) b))
 
 returns : tie.Need-returns
 returns c =
