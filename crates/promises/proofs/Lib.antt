@@ -8,5 +8,6 @@ pub mod Methods
 pub mod Asks
 pub mod EdgeLaws
 pub mod Edges
+pub mod Granting
 pub mod Alike
 pub mod Unique
