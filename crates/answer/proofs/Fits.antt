@@ -15,7 +15,7 @@ use Rattle.digits.specs.declared.Read.{Read}
 use Rattle.digits.specs.declared.Read.the-variants.{Value, Nothing}
 use Rattle.digits.proofs.Limits.{Is-read}
 use Rattle.writing.proofs.Numerals.{decimal-length, hex8-length, dotted-length}
-use Rattle.answer.specs.Lines.{reasonOf, line, statusLine, cseqLine, sessionLine, publicLine, transportLine, setupLines, playLines, refusedLines}
+use Rattle.answer.specs.Lines.{reasonOf, line, cseqLine, sessionLine, publicLine, transportLine, setupLines, playLines, refusedLines}
 use Rattle.answer.specs.Answers.{numbered, optionsLines, linesBy, linesOf, answerWith}
 use Rattle.answer.specs.declared.Kind.{Kind}
 use Rattle.answer.specs.declared.Kind.the-variants.{Bare, Allow, Public, Unsupported, Options, Setup, Play, Teardown}
@@ -61,9 +61,8 @@ reason-fits status =
     (phrase (eqb status 505) "RTSP Version Not Supported" _ (omega arith)
     (phrase (eqb status 551) "Option Not Supported" "" (omega arith) (omega arith)))))))))))))
 
-status-fits : (status : ℕ) → Is-small status → length (statusLine status) ≤ 52
-status-fits status h =
-    rw (length-append, length-append, length-append, length-append) (omega (arith, decimal-length 9 status (omega arith), reason-fits status))
+reason-line-fits : (status : ℕ) → length (line " " (text (reasonOf status))) ≤ 33
+reason-line-fits status = rw (length-append, length-append) (omega (arith, reason-fits status))
 
 cseq-fits : (cseq : Read) → Is-read Is-small cseq → length (cseqLine cseq) ≤ 18
 cseq-fits (Value n) h = numbered-fits (text "CSeq: ") n h
@@ -115,7 +114,12 @@ module _ (word : List ℕ) (a : Answer) (s : Small a) where
   -- AN ANSWER FITS 4,096 BYTES, where the request is within its limit
   pub answer-fits : length word ≤ 2048 → length (answerWith word a) ≤ 4096
   answer-fits h =
-      let n = both-fit (statusLine (a .status)) (cseqLine (a .cseq) & linesOf word a & text "\r\n") 52 (18 + ((200 + length word) + 2)) (status-fits (a .status) (s .status))
-      (both-fit (cseqLine (a .cseq)) (linesOf word a & text "\r\n") 18 ((200 + length word) + 2) (cseq-fits (a .cseq) (s .cseq))
-      (both-fit (linesOf word a) (text "\r\n") (200 + length word) 2 (lines-fit (a .kind)) (omega arith))) in
+      let lines = linesOf word a & text "\r\n" in
+      let later = cseqLine (a .cseq) & lines in
+      let reason = line " " (text (reasonOf (a .status))) in
+      let n = both-fit (text "RTSP/1.0 ") (decimal (a .status) & reason & later) 9 (10 + (33 + (18 + ((200 + length word) + 2)))) (omega arith)
+      (both-fit (decimal (a .status)) (reason & later) 10 (33 + (18 + ((200 + length word) + 2))) (decimal-length 9 (a .status) (omega (arith, s .status)))
+      (both-fit reason later 33 (18 + ((200 + length word) + 2)) (reason-line-fits (a .status))
+      (both-fit (cseqLine (a .cseq)) lines 18 ((200 + length word) + 2) (cseq-fits (a .cseq) (s .cseq))
+      (both-fit (linesOf word a) (text "\r\n") (200 + length word) 2 (lines-fit (a .kind)) (omega arith))))) in
       omega arith

@@ -9,7 +9,7 @@ use Rattle.writing.specs.Writing.{decimal, hex8, dotted}
 use Rattle.digits.specs.declared.Read.{Read}
 use Rattle.digits.specs.declared.Read.the-variants.{Value, Nothing}
 
--- "code, space, reason of 3.5.14"
+-- "reason of 3.5.14"
 unfoldable pub reasonOf : ℕ → String
 reasonOf status =
     eqb status 200 gives "OK" or
@@ -30,9 +30,6 @@ reasonOf status =
 -- a line, or the rest of one, from a text on
 abbrev pub line : String → List ℕ → List ℕ
 line start rest = text start & rest & text "\r\n"
-
-abbrev pub statusLine : ℕ → List ℕ
-statusLine status = text "RTSP/1.0 " & decimal status & line " " (text (reasonOf status))
 
 -- "All later answers carry it, without leading zeros", and those before it do not
 abbrev pub cseqLine : Read → List ℕ
@@ -65,6 +62,6 @@ refusedLines step value =
     eqb step 10 gives text "Allow: OPTIONS\r\n" or
     []
 
--- "An empty line ends it; no body."
+-- "`RTSP/1.0 `, code, space, reason ..; then `CSeq: n`; then ..; An empty line ends it; no body."
 abbrev pub answerLines : ℕ → Read → List ℕ → List ℕ
-answerLines status cseq lines = statusLine status & cseqLine cseq & lines & text "\r\n"
+answerLines status cseq lines = text "RTSP/1.0 " & decimal status & line " " (text (reasonOf status)) & cseqLine cseq & lines & text "\r\n"

@@ -11,8 +11,8 @@ use puts::put_cseq;
 use puts::put_numbered;
 use puts::put_part;
 use puts::put_public;
+use puts::put_reason_line;
 use puts::put_session;
-use puts::put_status;
 use puts::put_transport;
 use puts::put_unsupported;
 use scan::Span;
@@ -91,8 +91,10 @@ pub fn write(buf: &mut [u8], a: Answer, request: &[u8]) -> usize
     ensures { λ r. ⌜ Wrote (now (buf .entry)) 0 (answerText (now (request .entry)) a) (now (buf .exit)) r ⌝ }
 {
     let cseq = a.cseq;
-    let n = put_status(buf, 0, a.status);
-    let m = put_cseq(buf, n, cseq);
-    let k = put_lines(buf, m, a, request);
+    let n = writing::put(buf, 0, b"RTSP/1.0 ");
+    let m = writing::put_decimal(buf, n, a.status);
+    let l = put_reason_line(buf, m, a.status);
+    let j = put_cseq(buf, l, cseq);
+    let k = put_lines(buf, j, a, request);
     writing::put(buf, k, b"\r\n")
 }

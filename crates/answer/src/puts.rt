@@ -2,7 +2,7 @@
 ghost use mathlib.Core.List.{[]};
 ghost use Rattle.writing.specs.Wrote.{Wrote};
 ghost use Rattle.scan.specs.Text.{text};
-ghost use Rattle.answer.specs.Lines.{reasonOf, statusLine, cseqLine, sessionLine, publicLine, transportLine, refusedLines};
+ghost use Rattle.answer.specs.Lines.{reasonOf, line, cseqLine, sessionLine, publicLine, transportLine, refusedLines};
 ghost use Rattle.answer.specs.Answers.{reasonFrom, textAt};
 use digits::Read;
 use scan::Span;
@@ -45,14 +45,13 @@ fn put_reason(buf: &mut [u8], at: usize, status: u32) -> usize
     }
 }
 
-pub(crate) fn put_status(buf: &mut [u8], at: usize, status: u32) -> usize
-    ensures { λ r. ⌜ Wrote (now (buf .entry)) at (statusLine status) (now (buf .exit)) r ⌝ }
+// The status line from behind the code on.
+pub(crate) fn put_reason_line(buf: &mut [u8], at: usize, status: u32) -> usize
+    ensures { λ r. ⌜ Wrote (now (buf .entry)) at (line " " (text (reasonOf status))) (now (buf .exit)) r ⌝ }
 {
-    let n = writing::put(buf, at, b"RTSP/1.0 ");
-    let m = writing::put_decimal(buf, n, status);
-    let k = writing::put(buf, m, b" ");
-    let l = put_reason(buf, k, status);
-    writing::put(buf, l, b"\r\n")
+    let n = writing::put(buf, at, b" ");
+    let m = put_reason(buf, n, status);
+    writing::put(buf, m, b"\r\n")
 }
 
 // The CSeq of a request that has one.

@@ -28,6 +28,5 @@ statusOf c = ruleOf c .1
 abbrev pub isPassed : Case → Bool
 isPassed c = eqb (stepOf c) 0
 
--- the second where the first passes
 abbrev pub orElse : Case → Case → Case
 orElse c d = not (isPassed c) refuses c or d
