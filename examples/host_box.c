@@ -285,6 +285,8 @@ static bool take_up(uint32_t *clock)
 bool host_box_begin(const struct host_box *given, uint32_t *clock)
 {
     settings = *given;
+    if (satbox_version() != SATBOX_VERSION)
+        return wrong("the archive", "not that of satbox.h");
     random_numbers = open("/dev/urandom", O_RDONLY | O_CLOEXEC);
     if (random_numbers < 0)
         return fault("/dev/urandom");
