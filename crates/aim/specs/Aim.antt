@@ -53,11 +53,10 @@ uriRefusal frontends method u =
     lacksStream method (hasStream u) (hasQuery u) refuses NoStream or
     Passed
 
--- what a URI asks: an attribute's code, 0 where it is not given
+-- what a URI asks: an attribute's code, 0 where it is not given, its text, empty there, and the query
 abbrev pub codeIn : ℕ → ℕ → List ℕ → ℕ
 codeIn frontends a u = cond (hasQuery u) (codeOf frontends a (queryOf u)) 0
 
--- and its text, empty where it is not given
 abbrev pub textIn : ℕ → List ℕ → List ℕ
 textIn a u = cond (hasQuery u) (textOf a (queryOf u)) []
 

@@ -42,7 +42,6 @@ abbrev pub atLeast : ℕ → Read → Read
 atLeast least (Value v) = cond (leb least v) (Value v) Nothing
 atLeast least Nothing = Nothing
 
--- whether a number was read
 abbrev pub isValue : Read → Bool
 isValue (Value v) = true
 isValue Nothing = false

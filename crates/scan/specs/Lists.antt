@@ -5,7 +5,6 @@ use mathlib.Core.List.{List, [], _∷_}
 use lib.ListN.{take, drop}
 
 module _ {A : Type 0} (p : A → Bool) where
-  -- every element passes the test
   abbrev pub all : List A → Bool
   all [] = true
   all (x ∷ xs) = p x && all xs
