@@ -19,6 +19,7 @@ use Rattle.refusals.specs.declared.Refusal.{Refusal}
 use Rattle.refusals.specs.declared.Refusal.the-variants as refusal
 use Rattle.reader.specs.Request.{methodOf, uriOf, headRefusal, requestRefusal}
 use Rattle.stream.specs.Streams.{pastStream}
+use Rattle.stream.specs.Values.{areComplete}
 use Rattle.table.specs.Table.{sessionAt, streamOf}
 use Rattle.table.specs.declared.SatBox.{SatBox}
 use Rattle.table.proofs.Changes.{seated-live}
@@ -28,6 +29,8 @@ use Rattle.steps.specs.Steps.{lacksSession, namesDead, isOutOfState, isAnothers
 use Rattle.steps.specs.declared.cases.Case.the-variants.{Passed}
 use Rattle.serving.specs.Serving.{Serving, clientOf, answered}
 use Rattle.satbox.specs.Requests.{answerOf}
+use Rattle.orders.specs.Orders.{orderAt, orderFor}
+use Rattle.orders.specs.declared.Ordered.the-variants.{On, Off}
 use Rattle.closings.proofs.Keeping.{Whole}
 use Rattle.serving.proofs.Passing.{named-closable}
 use Rattle.serving.proofs.ServingLaws.{options-keeps}
@@ -199,3 +202,28 @@ refusals =
       state = refl;
       owner = refl;
     }
+
+-- and what a frontend is to be set to, by examples: on with its stream's values and PIDs where the owner plays and all of freq, pol, msys, sr and fec
+-- are there; off before the PLAY, on another frontend, and without fec
+abbrev play : List ℕ
+play = text "PLAY rtsp://10.0.0.5/stream=1 RTSP/1.0\r\nCSeq: 2\r\nSession: 00000001\r\n\r\n"
+
+abbrev playing : SatBox
+playing = after 1 (example ∷ play ∷ []) box
+
+abbrev lacking : SatBox
+lacking =
+    after 1
+    (text "SETUP rtsp://10.0.0.5/?freq=11538&pol=v&msys=dvbs&sr=22000 RTSP/1.0\r\nCSeq: 1\r\nTransport: RTP/AVP;unicast;client_port=5000-5001\r\n\r\n" ∷ play ∷ [])
+    box
+
+pub record Orders : Type 0 where
+  pub unplayed : orderFor opened 1 .outcome ≡ Off
+  pub on : orderFor playing 1 .outcome ≡ On
+  pub stream : orderFor playing 1 .stream ≡ streamOf playing 1
+  pub another : orderFor playing 2 .outcome ≡ Off
+  pub incomplete : orderFor lacking 1 .outcome ≡ Off
+
+pub orders : Orders
+unfolding meanings orderFor orderAt areComplete
+orders = record { unplayed = refl; on = refl; stream = refl; another = refl; incomplete = refl }
