@@ -1,6 +1,6 @@
 -- A number and its digits, for every base and every width: each gives the other back. Assumes nothing.
 use mathlib.Core.Path.{_≡_, refl, sym, ap, _∙_}
-use mathlib.Core.List.{List, [], _∷_, _++_}
+use mathlib.Core.List.{List, [], _∷_, _++_, foldl}
 use Prim.Native.Nat.{ℕ, zero, suc, _+_, _*_, _-_, _/_, _%_, _^_, _<_}
 use native.Mathlib.Decide.{decLt}
 use native.Mathlib.Nat.{pow-suc, pow-succ', pow-zero, mul-one, one-mul, mul-assoc, suc-mul, mul-le-mul-right, div-lt-iff-lt-mul, div-add-mod', mul-add-div-right, mul-add-mod-self-right, div-eq-of-lt, mod-eq-of-lt, mod-lt, add-zero}
@@ -8,7 +8,15 @@ use native.Mathlib.Omega.{arith}
 use lib.ListN.{length, take, getD, length-append, List·getD-eq-default}
 use lib.Seq.{take-suc, take-length, getD-take, length-take-le}
 use Rattle.scan.proofs.Bools.{by-cases}
-use Rattle.digits.specs.Positional.{digitsIn, valueFrom, valueIn, Below}
+use Rattle.digits.specs.Positional.{digitsIn, valueIn}
+
+-- the number that digits say after v
+abbrev pub valueFrom : ℕ → ℕ → List ℕ → ℕ
+valueFrom base v ds = foldl (λ w d. w * base + d) v ds
+
+-- each is a digit of the base
+abbrev pub Below : ℕ → List ℕ → Type 0
+Below base ds = (i : ℕ) → getD ds i 0 < base
 
 pub digits-length : (base k v : ℕ) → length (digitsIn base k v) ≡ k
 digits-length base zero v = refl

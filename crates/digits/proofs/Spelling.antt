@@ -10,8 +10,7 @@ use lib.ListN.{length, getD, drop, length-map}
 use borrow.Author.Tests.{le-leb, lt-leb, ltb-true, lt-ltb, le-ltb, ne-eqb}
 use Rattle.scan.proofs.Bools.{and-both, by-test}
 use Rattle.scan.proofs.Loops.{turn, end}
-use Rattle.digits.specs.Positional.{valueFrom, Below}
-use Rattle.digits.proofs.Positions.{value-below}
+use Rattle.digits.proofs.Positions.{valueFrom, Below, value-below}
 use Rattle.digits.specs.Reading.{digitOf, areDigits, spelled, readIn, readHex8}
 use Rattle.digits.specs.declared.Read.{Read}
 use Rattle.digits.specs.declared.Read.the-variants.{Value, Nothing}

@@ -17,8 +17,8 @@ use Rattle.scan.specs.declared.Case.the-variants.{Ignored}
 use Rattle.scan.specs.declared.Span.{Span}
 use Rattle.scan.proofs.Bools.{never}
 use Rattle.scan.proofs.Parts.{part-rest, holds-inside, named-by}
-use Rattle.lines.specs.Headers.{isHeader, known}
-use Rattle.lines.specs.Laid.{headerColon, noHeader, HeaderIs}
+use Rattle.lines.specs.Headers.{isHeader}
+use Rattle.lines.specs.Laid.{known, headerColon, noHeader, HeaderIs}
 use Rattle.lines.specs.declared.Header.{Header}
 
 module _ (line : List ℕ) {k : ℕ} (f : FirstOf (is 58) line k) where

@@ -20,8 +20,8 @@ use Rattle.scan.specs.declared.Class.the-variants.{NotText}
 use Rattle.scan.proofs.Bools.{never, by-test, by-cases, cond-keeps}
 use Rattle.scan.proofs.Loops.{first-within}
 use Rattle.scan.proofs.Parts.{part-length, part-empty, all-same, some-part, holds-nothing, holds-inside}
-use Rattle.lines.specs.Headers.{known, isHeader, headerOf, valuesOf}
-use Rattle.lines.specs.Laid.{nameOf, headerValue, valueAt, firstStart, HeaderIs, SeenIs, unseen, seenAgain, isPairAt, brokenLines, HeadersAre, LinesAre, areHeaders, areAll, untilEmpty}
+use Rattle.lines.specs.Headers.{isHeader, headerOf, valuesOf}
+use Rattle.lines.specs.Laid.{known, nameOf, headerValue, valueAt, firstStart, HeaderIs, SeenIs, unseen, seenAgain, isPairAt, brokenLines, HeadersAre, LinesAre, areHeaders, areAll, untilEmpty}
 use Rattle.lines.specs.Lines.{lines, isLaidOut, requestLine, headerLines}
 use Rattle.lines.specs.declared.Seen.{Seen}
 use Rattle.lines.specs.declared.Header.{Header}

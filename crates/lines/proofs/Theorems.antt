@@ -12,8 +12,8 @@ use Rattle.scan.specs.Found.{small}
 use Rattle.scan.specs.Trim.{isEmpty}
 use Rattle.scan.specs.declared.Case.the-variants.{Ignored}
 use Rattle.scan.proofs.Places.{place-by}
-use Rattle.lines.specs.Headers.{known, isHeader, headerOf, valuesOf}
-use Rattle.lines.specs.Laid.{nameOf, headerValue, areHeaders}
+use Rattle.lines.specs.Headers.{isHeader, headerOf, valuesOf}
+use Rattle.lines.specs.Laid.{known, nameOf, headerValue, areHeaders}
 
 -- header lines whose names differ in case alone
 pub data Recased : List (List ℕ) → List (List ℕ) → Type 0 where

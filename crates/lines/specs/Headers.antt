@@ -16,11 +16,8 @@ abbrev pub isHeader : List ℕ → Bool
 isHeader line = has 58 line && areNameBytes (before 58 line)
 
 -- a header by its place among the known ones, 5 for any other
-abbrev pub known : List ℕ
-known = text "CSeq Session Transport Require Accept"
-
 abbrev pub headerOf : List ℕ → ℕ
-headerOf line = placeAmong Ignored known (before 58 line)
+headerOf line = placeAmong Ignored (text "CSeq Session Transport Require Accept") (before 58 line)
 
 -- the values of the headers of one kind, in the order in which they were sent; and the first of them
 abbrev pub valuesOf : ℕ → List (List ℕ) → List (List ℕ)

@@ -15,6 +15,11 @@ use Rattle.lines.specs.declared.Lines.{Lines}
 use Rattle.scan.specs.Lists.{first, all}
 use Rattle.scan.specs.Cut.{is, before, after}
 use Rattle.scan.specs.Trim.{trim, isEmpty}
+use Rattle.scan.specs.Text.{text}
+
+-- the known headers, by their places
+abbrev pub known : List ℕ
+known = text "CSeq Session Transport Require Accept"
 
 abbrev pub headerColon : List ℕ → ℕ
 headerColon line = first (is 58) line

@@ -22,7 +22,7 @@ use native.Mathlib.Nat.{sub-zero}
 use Rattle.scan.specs.Text.{text, _&_}
 use Rattle.scan.specs.Classes.{isBetween}
 use Rattle.scan.proofs.Loops.{first-within}
-use Rattle.digits.specs.Positional.{valueFrom}
+use Rattle.digits.proofs.Positions.{valueFrom}
 use Rattle.digits.proofs.Spelling.{all-digits}
 use Rattle.tuning.specs.Values.{frequency}
 

@@ -4,7 +4,7 @@ use borrow.Author.Needs.{needs}
 use Rattle.scan.specs.Text.{text}
 use Rattle.scan.specs.declared.Case.the-variants.{Ignored}
 use Rattle.scan.proofs.Places.{miss, none, place-alike, place-none}
-use Rattle.lines.specs.Headers.{known}
+use Rattle.lines.specs.Laid.{known}
 use Rattle.lines.proofs.kind_of.Statement.{statement}
 use Rattle.lines.proofs.kind_of.Tie as tie
 
