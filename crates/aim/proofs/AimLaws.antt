@@ -8,7 +8,7 @@ use native.Mathlib.Omega.{arith}
 use lib.Dec.{ltb, eqb}
 use lib.ListN.{length, getD, replicate}
 use borrow.Author.Tests.{lt-ltb, le-ltb}
-use Rattle.scan.specs.Lists.{part}
+use Rattle.scan.specs.Lists.{part, _gives_or_}
 use Rattle.scan.specs.Found.{Holds}
 use Rattle.scan.specs.declared.Span.{Span}
 use Rattle.scan.proofs.Bools.{never, by-cases}
@@ -18,7 +18,7 @@ use Rattle.target.specs.Steps.{UriIs}
 use Rattle.target.specs.declared.Uri.{Uri}
 use Rattle.aim.specs.Query.{isQuery, areWithin, codeFrom, textOf, nowhere}
 use Rattle.aim.specs.Found.{QueryIs, Reached, refusedAim, verdictOf, isSpan, AimIs, judged}
-use Rattle.refusals.specs.Refusals.{_refuses_or_, isRead}
+use Rattle.refusals.specs.Refusals.{isRead}
 use Rattle.aim.specs.Aim.{takesNoQuery, hasStream, lacksStream, uriRefusal}
 use Rattle.refusals.specs.declared.Refusal.{Refusal}
 use Rattle.refusals.specs.declared.Refusal.the-variants.{Passed, UriLong, UriForm, QueryUntaken, QueryForm, NoStream}
@@ -64,8 +64,8 @@ module _ (frontends : ℕ) (method : Method) (u : List ℕ) {t : Uri} {b : Bool}
   stream-named e = e ∙ ap (λ x. not (eqb (codeFrom x) 0)) (r .is .stream (r .sound))
 
   chain : uriRefusal frontends method u
-      ≡ (b && takesNoQuery method) refuses QueryUntaken or
-      (b && not (isQuery (queryOf u))) refuses QueryForm or
+      ≡ (b && takesNoQuery method) gives QueryUntaken or
+      (b && not (isQuery (queryOf u))) gives QueryForm or
       judged ((b && ltb 0 (length (textOf 10 (queryOf u)))) && ((b && ltb 0 (length (textOf 11 (queryOf u)))) || (b && ltb 0 (length (textOf 12 (queryOf u))))))
       (((b && ltb 0 (length (textOf 11 (queryOf u)))) || (b && ltb 0 (length (textOf 12 (queryOf u))))) && not (hasStream u))
       (b && not (areWithin frontends (queryOf u)))

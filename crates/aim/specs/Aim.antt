@@ -6,12 +6,12 @@ use lib.Dec.{ltb, eqb}
 use lib.ListN.{length}
 use Rattle.target.specs.Uri.{isUri, streamNamed, hasQuery, queryOf}
 use Rattle.aim.specs.Query.{isQuery, areWithin, codeOf, textOf, codeFrom}
-use Rattle.refusals.specs.Refusals.{_refuses_or_}
 use Rattle.refusals.specs.declared.Refusal.{Refusal}
 use Rattle.refusals.specs.declared.Refusal.the-variants.{Passed, UriLong, UriForm, QueryUntaken, QueryForm, PidsClash, PidsUnstreamed, NoStream}
 use Rattle.refusals.specs.declared.Refusal.the-variants.{Value as Outside}
 use Rattle.aim.specs.declared.Method.{Method}
 use Rattle.aim.specs.declared.Method.the-variants.{Options, Setup, Play, Teardown, Other}
+use Rattle.scan.specs.Lists.{_gives_or_}
 
 -- a method's place among OPTIONS, SETUP, PLAY, TEARDOWN, from 0 on; 4 for any other
 abbrev pub methodNumber : Method → ℕ
@@ -43,14 +43,14 @@ lacksStream method stream query =
 
 unfoldable pub uriRefusal : ℕ → Method → List ℕ → Refusal
 uriRefusal frontends method u =
-    ltb 1024 (length u) refuses UriLong or
-    not (isUri u) refuses UriForm or
-    (hasQuery u && takesNoQuery method) refuses QueryUntaken or
-    (hasQuery u && not (isQuery (queryOf u))) refuses QueryForm or
-    (isGiven 10 u && edits u) refuses PidsClash or
-    (edits u && not (hasStream u)) refuses PidsUnstreamed or
-    (hasQuery u && not (areWithin frontends (queryOf u))) refuses Outside or
-    lacksStream method (hasStream u) (hasQuery u) refuses NoStream or
+    ltb 1024 (length u) gives UriLong or
+    not (isUri u) gives UriForm or
+    (hasQuery u && takesNoQuery method) gives QueryUntaken or
+    (hasQuery u && not (isQuery (queryOf u))) gives QueryForm or
+    (isGiven 10 u && edits u) gives PidsClash or
+    (edits u && not (hasStream u)) gives PidsUnstreamed or
+    (hasQuery u && not (areWithin frontends (queryOf u))) gives Outside or
+    lacksStream method (hasStream u) (hasQuery u) gives NoStream or
     Passed
 
 -- what a URI asks: an attribute's code, 0 where it is not given, its text, empty there, and the query

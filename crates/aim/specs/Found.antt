@@ -15,13 +15,13 @@ use Rattle.digits.specs.declared.Read.the-variants.{Value as Number}
 use Rattle.target.specs.Uri.{streamNamed, hostOf, hasQuery, queryOf}
 use Rattle.target.specs.Steps.{question, UriIs}
 use Rattle.target.specs.declared.Uri.{Uri}
-use Rattle.refusals.specs.Refusals.{isRead, _refuses_or_}
+use Rattle.refusals.specs.Refusals.{isRead}
 use Rattle.refusals.specs.declared.Refusal.{Refusal}
 use Rattle.refusals.specs.declared.Refusal.the-variants.{Passed, PidsClash, PidsUnstreamed, NoStream}
 use Rattle.aim.specs.declared.Method.{Method}
 use Rattle.aim.specs.declared.Aim.{Aim}
 use Rattle.aim.specs.Aim.{codeIn, lacksStream, queryIn, textIn, uriRefusal}
-use Rattle.scan.specs.Lists.{first}
+use Rattle.scan.specs.Lists.{first, _gives_or_}
 use Rattle.scan.specs.Cut.{is, after}
 use Rattle.digits.specs.Reading.{isValue}
 use Rattle.tuning.specs.Values.{valueOf}
@@ -106,10 +106,10 @@ isSpan s = ltb (s .start) (s .end)
 -- steps 8 to 10 of a query that has its form, by what was found of it
 abbrev pub judged : Bool → Bool → Bool → Bool → Refusal
 judged clash unstreamed outside lacks =
-    clash refuses PidsClash or
-    unstreamed refuses PidsUnstreamed or
-    outside refuses Outside or
-    lacks refuses NoStream or
+    clash gives PidsClash or
+    unstreamed gives PidsUnstreamed or
+    outside gives Outside or
+    lacks gives NoStream or
     Passed
 
 -- what is wrong with a query that has its form, by what was read of it

@@ -15,7 +15,6 @@ use Rattle.reader.specs.Request.{requestRefusal}
 use Rattle.table.specs.Table.{openCount, streamOf, isLive}
 use Rattle.table.specs.declared.Settings.{Settings}
 use Rattle.table.specs.declared.SatBox.{SatBox}
-use Rattle.refusals.specs.Refusals.{_refuses_or_}
 use Rattle.steps.specs.Asked.{Asked, Lists, askedOf, listsOf}
 use Rattle.steps.specs.Sights.{sightOf}
 use Rattle.steps.specs.Steps.{isSetup, namesDead}
@@ -27,6 +26,7 @@ use Rattle.serving.specs.declared.opening.Client.{Client}
 use Rattle.serving.proofs.Passing.{untested}
 use Rattle.satbox.proofs.RequestLaws.{grant-passes}
 use Rattle.lives.specs.Closed.{PassesElse}
+use Rattle.scan.specs.Lists.{_gives_or_}
 
 setup-only : (m : Method) → isSetup m ≡ true → m ≡ Setup
 setup-only Options e = never e refl
@@ -51,7 +51,7 @@ module _ (t : SatBox) (a : Asked) (l : Lists) (p : PassesElse t a l) where
       by (same z) = rw (eq-eqb (sightOf t a .stream) 0 z, p .place, p .frontend z)
       by (other z) = rw (ne-eqb (sightOf t a .stream) 0 z, p .place, live z)
 
-  case-is : caseOf t a l ≡ (not (hasRoom t) refuses Full or Passed)
+  case-is : caseOf t a l ≡ (not (hasRoom t) gives Full or Passed)
   unfolding caseOf changeCase
   case-is = rw (p .seen, p .combination, p .pids, p .opening, seat-is-room)
 

@@ -23,7 +23,7 @@ use Rattle.target.specs.Steps.{PartsAre, UriIs}
 use Rattle.target.specs.declared.Parts.{Parts}
 use Rattle.target.specs.declared.Uri.{Uri}
 use Rattle.aim.specs.Query.{nowhere, codeFrom}
-use Rattle.refusals.specs.Refusals.{readingStep, isRead}
+use Rattle.refusals.specs.Refusals.{isRead, readingRule}
 use Rattle.aim.specs.Found.{AimIs}
 use Rattle.aim.specs.declared.Aim.{Aim}
 use Rattle.aim.specs.declared.Method.{Method as Methods}
@@ -123,7 +123,7 @@ module _ (frontends : ℕ) (m : Methods) (u : List ℕ) (x y : Aim) (p : AimIs f
 
 -- A REQUEST; the same
 -- the case of step 5, and no other
-required : (r : Refusal) → eqb (readingStep r) 5 ≡ true → r ≡ Require
+required : (r : Refusal) → eqb (readingRule r .0) 5 ≡ true → r ≡ Require
 required Require e = refl
 required Passed e = never refl (sym e)
 required Layout e = never refl (sym e)
@@ -144,14 +144,14 @@ required NoStream e = never refl (sym e)
 module _ (frontends : ℕ) (s : List ℕ) (x y : Request) (p : RequestIs frontends s x) (q : RequestIs frontends s y)
     (n : length (x .codes) ≡ length (y .codes)) (o : length (x .spans) ≡ length (y .spans)) where
   same-require : x .require ≡ y .require
-  same-require = by (case (eqb (readingStep (headRefusal s)) 5))
+  same-require = by (case (eqb (readingRule (headRefusal s) .0) 5))
     where
-      by : Case (eqb (readingStep (headRefusal s)) 5) → x .require ≡ y .require
+      by : Case (eqb (readingRule (headRefusal s) .0) 5) → x .require ≡ y .require
       by (is t) =
           let e = required (headRefusal s) t in
           span-same (p .require-starts e ∙ sym (q .require-starts e)) (p .require e) (q .require e)
       by (isnt z) =
-          let d : headRefusal s ≡ Require → ⊥ = λ e. eqb-false _ _ z (ap readingStep e) in
+          let d : headRefusal s ≡ Require → ⊥ = λ e. eqb-false _ _ z (ap (λ r. readingRule r .0) e) in
           p .unrequired d ∙ sym (q .unrequired d)
 
   pub request-same : x ≡ y

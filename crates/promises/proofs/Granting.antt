@@ -13,7 +13,6 @@ use Rattle.scan.specs.Text.{text, _&_}
 use Rattle.target.specs.Uri.{isUri, hasQuery}
 use Rattle.aim.specs.Aim.{takesNoQuery, uriRefusal}
 use Rattle.refusals.specs.Refusals as reading
-use Rattle.refusals.specs.Refusals.{_refuses_or_}
 use Rattle.aim.specs.declared.Method.the-variants.{Options, Teardown}
 use Rattle.refusals.specs.declared.Refusal.{Refusal}
 use Rattle.refusals.specs.declared.Refusal.the-variants as refusal
@@ -37,9 +36,10 @@ use Rattle.serving.proofs.ServingLaws.{options-keeps}
 use Rattle.serving.proofs.Branching.{tears-down}
 use Rattle.promises.proofs.Asks.{example, box, home, verdict, ask, after}
 use Rattle.promises.proofs.Edges.{meanings}
+use Rattle.scan.specs.Lists.{_gives_or_}
 
 -- what no refusal of a chain stops
-goes-on : (b : Bool) (c d : Refusal) → reading.isRead c ≡ false → (b refuses c or d) ≡ refusal.Passed → (b ≡ false) × (d ≡ refusal.Passed)
+goes-on : (b : Bool) (c d : Refusal) → reading.isRead c ≡ false → (b gives c or d) ≡ refusal.Passed → (b ≡ false) × (d ≡ refusal.Passed)
 goes-on true c d n e = never (ap reading.isRead e) n
 goes-on false c d n e = (refl, e)
 

@@ -8,7 +8,7 @@ use lib.Dec.{ltb, eqb}
 use lib.ListN.{length, getD}
 use borrow.Author.Tests.{lt-ltb, le-ltb, ne-eqb}
 use Rattle.scan.specs.Text.{text}
-use Rattle.scan.specs.Lists.{part}
+use Rattle.scan.specs.Lists.{part, _gives_or_}
 use Rattle.scan.specs.Found.{Holds}
 use Rattle.scan.specs.Compare.{areAlike}
 use Rattle.scan.specs.declared.Span.{Span}
@@ -31,7 +31,7 @@ use Rattle.target.specs.declared.Parts.{Parts}
 use Rattle.reader.specs.Fields.{cseqFrom, sessionOf, sessionIn, transportOf}
 use Rattle.reader.specs.Heads.{headText, cseqAt, sessionSeen, areTwice, Begun, Headed, Passing, uriStart, refusedRequest, RequestIs, isOther, isVersion}
 use Rattle.aim.specs.Query.{nowhere}
-use Rattle.refusals.specs.Refusals.{_refuses_or_, readingStep, isRead}
+use Rattle.refusals.specs.Refusals.{isRead, readingRule}
 use Rattle.reader.specs.Request.{methodIn, cseqOf, isTwice, methodOf, uriOf, headRefusal, requestRefusal}
 use Rattle.aim.specs.Found.{AimIs}
 use Rattle.refusals.specs.declared.Refusal.{Refusal}
@@ -103,10 +103,10 @@ request-refused {x = x} n k u e d q =
     })
 
 -- by one of steps 1 to 6, and not by the fifth, which also hands out a value
-pub head-refused : {frontends : ℕ} {s : List ℕ} {r : Request} {x : Refusal} {c : Read} → headRefusal s ≡ x → isRead x ≡ false → (readingStep x ≡ 5 → ⊥) → c ≡ cseqOf s
+pub head-refused : {frontends : ℕ} {s : List ℕ} {r : Request} {x : Refusal} {c : Read} → headRefusal s ≡ x → isRead x ≡ false → (readingRule x .0 ≡ 5 → ⊥) → c ≡ cseqOf s
     → r ≡ refusedRequest x c nowhere → RequestIs frontends s r
 unfolding requestRefusal
-head-refused h n k d q = request-refused n (λ z. absurd (k (ap readingStep (sym h ∙ z)))) (λ _. refl) (rw (h, n)) d q
+head-refused h n k d q = request-refused n (λ z. absurd (k (ap (λ r. readingRule r .0) (sym h ∙ z)))) (λ _. refl) (rw (h, n)) d q
 
 module _ (s : List ℕ) {l : Lines} (i : LinesAre s l) where
   pub request-broken : l .sound ≡ false → (headRefusal s ≡ Layout) × (Nothing ≡ cseqOf s)
@@ -202,7 +202,7 @@ module _ (frontends : ℕ) (s : List ℕ) {l : Lines} {c : Read} {p : Parts} (h 
   pub method-read : {m : Method} → m ≡ methodIn (part 0 (p .first) (part 0 (l .line) s)) → m ≡ methodOf s
   method-read e = e ∙ ap methodIn method-held
 
-  head-is : headRefusal s ≡ isOther (methodOf s) refuses OtherMethod or Passed
+  head-is : headRefusal s ≡ isOther (methodOf s) gives OtherMethod or Passed
   unfolding headRefusal
   head-is =
       rw (
@@ -225,7 +225,7 @@ module _ (frontends : ℕ) (s : List ℕ) {l : Lines} {c : Read} {p : Parts} (h 
     passes = let o : isOther (methodOf s) ≡ false = ap isOther (sym e) ∙ sym q ∙ n in head-is ∙ rw o
 
     pub request-unrequired : headRefusal s ≡ Require → ⊥
-    request-unrequired z = let w : _≡_ {A = ℕ} 0 5 = ap readingStep (sym passes ∙ z) in omega arith
+    request-unrequired z = let w : _≡_ {A = ℕ} 0 5 = ap (λ r. readingRule r .0) (sym passes ∙ z) in omega arith
 
     pub request-aimed : a .refusal ≡ requestRefusal frontends s
     unfolding requestRefusal

@@ -15,13 +15,14 @@ use Rattle.lines.specs.Lines.{isLaidOut, requestLine, headerLines}
 use Rattle.lines.specs.Headers.{valuesOf}
 use Rattle.target.specs.Line.{isThree, linePart}
 use Rattle.reader.specs.Fields.{cseqFrom}
-use Rattle.refusals.specs.Refusals.{_refuses_or_, isRead}
+use Rattle.refusals.specs.Refusals.{isRead}
 use Rattle.refusals.specs.declared.Refusal.{Refusal}
 use Rattle.refusals.specs.declared.Refusal.the-variants.{Passed, Layout, CSeq, RequestLine, HeaderTwice, Version, Require}
 use Rattle.refusals.specs.declared.Refusal.the-variants.{Method as OtherMethod}
 use Rattle.aim.specs.declared.Method.{Method}
 use Rattle.aim.specs.declared.Method.the-variants.{Options, Setup, Play, Teardown, Other}
 use Rattle.aim.specs.Aim.{uriRefusal, methodNumber}
+use Rattle.scan.specs.Lists.{_gives_or_}
 
 -- a method by its word; "case counts"
 unfoldable pub methodIn : List ℕ → Method
@@ -44,14 +45,14 @@ uriOf s = linePart 1 (requestLine s)
 
 unfoldable pub headRefusal : List ℕ → Refusal
 headRefusal s =
-    not (isLaidOut s) refuses Layout or
-    not (isValue (cseqOf s)) refuses CSeq or
-    not (isThree (requestLine s)) refuses RequestLine or
-    isTwice (headerLines s) refuses HeaderTwice or
-    not (areAlike Counts (linePart 2 (requestLine s)) (text "RTSP/1.0")) refuses Version or
-    ltb 0 (length (valuesOf 3 (headerLines s))) refuses Require or
-    eqb (methodNumber (methodOf s)) 4 refuses OtherMethod or
+    not (isLaidOut s) gives Layout or
+    not (isValue (cseqOf s)) gives CSeq or
+    not (isThree (requestLine s)) gives RequestLine or
+    isTwice (headerLines s) gives HeaderTwice or
+    not (areAlike Counts (linePart 2 (requestLine s)) (text "RTSP/1.0")) gives Version or
+    ltb 0 (length (valuesOf 3 (headerLines s))) gives Require or
+    eqb (methodNumber (methodOf s)) 4 gives OtherMethod or
     Passed
 
 unfoldable pub requestRefusal : ℕ → List ℕ → Refusal
-requestRefusal frontends s = not (isRead (headRefusal s)) refuses headRefusal s or uriRefusal frontends (methodOf s) (uriOf s)
+requestRefusal frontends s = not (isRead (headRefusal s)) gives headRefusal s or uriRefusal frontends (methodOf s) (uriOf s)

@@ -1,6 +1,6 @@
 // Why a request is refused, in document 01's order: each case with its step and its status.
 ghost use mathlib.Core.Path.{_≡_};
-ghost use Rattle.refusals.specs.Refusals.{readingStep, readingStatus, isRead};
+ghost use Rattle.refusals.specs.Refusals.{readingRule, isRead};
 
 pub enum Refusal {
     // Nothing of steps 1 to 10 refuses the request.
@@ -28,7 +28,7 @@ pub enum Refusal {
 
 // Document 01's step, 0 where nothing refuses.
 pub fn step(refusal: Refusal) -> u8
-    ensures { λ r. ⌜ r ≡ readingStep refusal ⌝ }
+    ensures { λ r. ⌜ r ≡ readingRule refusal .0 ⌝ }
 {
     match refusal {
         Refusal::Passed => 0,
@@ -52,7 +52,7 @@ pub fn step(refusal: Refusal) -> u8
 
 // The status that answers it, 200 where nothing refuses.
 pub fn status(refusal: Refusal) -> u16
-    ensures { λ r. ⌜ r ≡ readingStatus refusal ⌝ }
+    ensures { λ r. ⌜ r ≡ readingRule refusal .1 ⌝ }
 {
     match refusal {
         Refusal::Passed => 200,

@@ -19,7 +19,6 @@ use Rattle.table.specs.Table.{noSession, streamOf, owns, boxWith, sessionWith}
 use Rattle.finding.specs.Finding.{lowestFrontend, lowestId}
 use Rattle.table.specs.declared.Session.{Session}
 use Rattle.table.specs.declared.SatBox.{SatBox}
-use Rattle.refusals.specs.Refusals.{_refuses_or_}
 use Rattle.steps.specs.Asked.{Asked, Lists, askedOf, listsOf}
 use Rattle.steps.specs.Sights.{portOf, sightOf}
 use Rattle.steps.specs.Cases.{isPassed, orElse}
@@ -31,6 +30,7 @@ use Rattle.closings.specs.Did.{Did, nothing, when, restreamed}
 use Rattle.closings.specs.Closing.{closing}
 use Rattle.serving.specs.Opening.{guest, canJoin, joining, canOpen, opening}
 use Rattle.serving.specs.declared.opening.Client.{Client}
+use Rattle.scan.specs.Lists.{_gives_or_}
 
 -- a new stream takes fe "and, without fe, the lowest free frontend"
 abbrev pub feedOf : SatBox → ℕ → ℕ
@@ -71,9 +71,9 @@ canSeat t v = cond (eqb (v .stream) 0) (canOpen (feedOf t (v .fe)) t) (canJoin (
 -- 16: "Combination rule broken"; 17: "More than 32 PIDs after merging"; 18: "Opening: .."
 unfoldable pub changeCase : SatBox → Asked → Lists → Case
 changeCase t a l =
-    (merges (sightOf t a) && isClash (merging t a l .outcome)) refuses Combination or
-    (merges (sightOf t a) && isTooMany (merging t a l .outcome)) refuses TooManyPids or
-    (isOpening (sightOf t a) && not (canSeat t (sightOf t a))) refuses Full or
+    (merges (sightOf t a) && isClash (merging t a l .outcome)) gives Combination or
+    (merges (sightOf t a) && isTooMany (merging t a l .outcome)) gives TooManyPids or
+    (isOpening (sightOf t a) && not (canSeat t (sightOf t a))) gives Full or
     Passed
 
 -- THE CASE of a request that steps 1 to 10 let through

@@ -23,7 +23,6 @@ use Rattle.target.specs.Uri.{isUri, hostOf, hasQuery, queryOf}
 use Rattle.aim.specs.Query.{nowhere, isQuery, areWithin}
 use Rattle.aim.specs.Aim.{takesNoQuery, hasStream, isGiven, edits, lacksStream, uriRefusal}
 use Rattle.refusals.specs.Refusals as reading
-use Rattle.refusals.specs.Refusals.{_refuses_or_}
 use Rattle.aim.specs.declared.Method.{Method}
 use Rattle.aim.specs.declared.Method.the-variants.{Options, Setup, Play, Teardown, Other}
 use Rattle.refusals.specs.declared.Refusal.{Refusal}
@@ -46,6 +45,7 @@ use Rattle.steps.specs.Handed.{grantedKind, kindOf, replyTo}
 use Rattle.steps.specs.declared.Sight.{Sight}
 use Rattle.steps.specs.declared.cases.Case.{Case}
 use Rattle.steps.specs.declared.cases.Case.the-variants.{Passed, Reading, NoSession, NotLive, State, NotOwner, Transport, Combination, TooManyPids, Full}
+use Rattle.refusals.specs.Refusals.{readingRule}
 
 abbrev pub isReading : Case → Bool
 isReading Passed = false
@@ -86,12 +86,12 @@ pub unread-passed : (c : Case) → isReading c ≡ false → isPassed c ≡ true
 unread-passed = unread-keeps (λ c. isPassed c ≡ true → c ≡ Passed) (λ _. refl) (λ c b e. never e (b .0))
 
 -- what holds of two refusals holds of the first that applies
-refuses-keeps : {A : Type 0} (P : A → Type 0) (b : Bool) (x y : A) → P x → P y → P (b refuses x or y)
+refuses-keeps : {A : Type 0} (P : A → Type 0) (b : Bool) (x y : A) → P x → P y → P (b gives x or y)
 refuses-keeps P true x y p q = p
 refuses-keeps P false x y p q = q
 
 -- steps 11 to 15 are none of the reading's
-pub unread-chain : (b : Bool) (c d : Case) → isReading c ≡ false → isReading d ≡ false → isReading (b refuses c or d) ≡ false
+pub unread-chain : (b : Bool) (c d : Case) → isReading c ≡ false → isReading d ≡ false → isReading (b gives c or d) ≡ false
 unread-chain = refuses-keeps (λ c. isReading c ≡ false)
 
 pub table-unread : (v : Sight) → isReading (tableCase v) ≡ false
@@ -121,7 +121,7 @@ unfolding textAt
 text-nowhere s = cond-keeps (λ (l : List ℕ). l ≡ []) (leb 0 0 && leb 0 (length s)) [] [] (λ _. refl) (λ _. refl)
 
 -- step 5 is a Require header's
-uri-step : (frontends : ℕ) (method : Method) (u : List ℕ) → reading.readingStep (uriRefusal frontends method u) ≡ 5 → ⊥
+uri-step : (frontends : ℕ) (method : Method) (u : List ℕ) → readingRule (uriRefusal frontends method u) .0 ≡ 5 → ⊥
 unfolding uriRefusal
 uri-step frontends method u =
     keeps (ltb 1024 (length u)) refusal.UriLong _ (λ e. omega arith)
@@ -133,10 +133,10 @@ uri-step frontends method u =
     (keeps (hasQuery u && not (areWithin frontends (queryOf u))) refusal.Value _ (λ e. omega arith)
     (keeps (lacksStream method (hasStream u) (hasQuery u)) refusal.NoStream refusal.Passed (λ e. omega arith) (λ e. omega arith))))))))
   where
-    keeps : (b : Bool) (x y : Refusal) → (reading.readingStep x ≡ 5 → ⊥) → (reading.readingStep y ≡ 5 → ⊥) → reading.readingStep (b refuses x or y) ≡ 5 → ⊥
-    keeps = refuses-keeps (λ x. reading.readingStep x ≡ 5 → ⊥)
+    keeps : (b : Bool) (x y : Refusal) → (readingRule x .0 ≡ 5 → ⊥) → (readingRule y .0 ≡ 5 → ⊥) → readingRule (b gives x or y) .0 ≡ 5 → ⊥
+    keeps = refuses-keeps (λ x. readingRule x .0 ≡ 5 → ⊥)
 
-head-step : (s : List ℕ) → reading.readingStep (headRefusal s) ≡ 5 → headRefusal s ≡ refusal.Require
+head-step : (s : List ℕ) → readingRule (headRefusal s) .0 ≡ 5 → headRefusal s ≡ refusal.Require
 unfolding headRefusal
 head-step s =
     keeps (not (isLaidOut s)) refusal.Layout _ (λ e. absurd (omega arith))
@@ -147,14 +147,14 @@ head-step s =
     (keeps (ltb 0 (length (valuesOf 3 (headerLines s)))) refusal.Require _ (λ e. refl)
     (keeps (isOther (methodOf s)) refusal.Method refusal.Passed (λ e. absurd (omega arith)) (λ e. absurd (omega arith))))))))
   where
-    keeps : (b : Bool) (x y : Refusal) → (reading.readingStep x ≡ 5 → x ≡ refusal.Require) → (reading.readingStep y ≡ 5 → y ≡ refusal.Require)
-        → reading.readingStep (b refuses x or y) ≡ 5 → (b refuses x or y) ≡ refusal.Require
-    keeps = refuses-keeps (λ x. reading.readingStep x ≡ 5 → x ≡ refusal.Require)
+    keeps : (b : Bool) (x y : Refusal) → (readingRule x .0 ≡ 5 → x ≡ refusal.Require) → (readingRule y .0 ≡ 5 → y ≡ refusal.Require)
+        → readingRule (b gives x or y) .0 ≡ 5 → (b gives x or y) ≡ refusal.Require
+    keeps = refuses-keeps (λ x. readingRule x .0 ≡ 5 → x ≡ refusal.Require)
 
-required : (frontends : ℕ) (s : List ℕ) → reading.readingStep (requestRefusal frontends s) ≡ 5 → headRefusal s ≡ refusal.Require
+required : (frontends : ℕ) (s : List ℕ) → readingRule (requestRefusal frontends s) .0 ≡ 5 → headRefusal s ≡ refusal.Require
 unfolding requestRefusal
 required frontends s =
-    by-test (λ t. reading.readingStep (not t refuses headRefusal s or uriRefusal frontends (methodOf s) (uriOf s)) ≡ 5 → headRefusal s ≡ refusal.Require)
+    by-test (λ t. readingRule (not t gives headRefusal s or uriRefusal frontends (methodOf s) (uriOf s)) .0 ≡ 5 → headRefusal s ≡ refusal.Require)
     (reading.isRead (headRefusal s))
     (λ _ e. absurd (uri-step frontends (methodOf s) (uriOf s) e))
     (λ _ e. head-step s e)
@@ -185,14 +185,14 @@ refused-told step word value a h = by (eqb step 5) (eqb step 6) (eqb step 10) h
     by false false false k = refl
 
 module _ (frontends : ℕ) (s : List ℕ) (r : Request) (i : RequestIs frontends s r) where
-  text-none : (reading.readingStep (r .refusal) ≡ 5 → ⊥) → textAt s (r .require) ≡ []
-  text-none h = rw (i .unrequired (λ z. h (ap reading.readingStep (i .refusal ∙ requires frontends s z)))) (text-nowhere s)
+  text-none : (readingRule (r .refusal) .0 ≡ 5 → ⊥) → textAt s (r .require) ≡ []
+  text-none h = rw (i .unrequired (λ z. h (ap (λ r. readingRule r .0) (i .refusal ∙ requires frontends s z)))) (text-nowhere s)
 
   text-after : r .refusal ≡ refusal.Passed → textAt s (r .require) ≡ []
-  text-after p = text-none (λ e. let n : _≡_ {A = ℕ} 0 5 = ap reading.readingStep (sym p) ∙ e in omega arith)
+  text-after p = text-none (λ e. let n : _≡_ {A = ℕ} 0 5 = ap (λ r. readingRule r .0) (sym p) ∙ e in omega arith)
 
-  required-by : eqb (reading.readingStep (r .refusal)) 5 ≡ true → headRefusal s ≡ refusal.Require
-  required-by e = required frontends s (ap reading.readingStep (sym (i .refusal)) ∙ eqb-true (reading.readingStep (r .refusal)) 5 e)
+  required-by : eqb (readingRule (r .refusal) .0) 5 ≡ true → headRefusal s ≡ refusal.Require
+  required-by e = required frontends s (ap (λ r. readingRule r .0) (sym (i .refusal)) ∙ eqb-true (readingRule (r .refusal) .0) 5 e)
 
   -- which place of the request is repeated
   abbrev wordAt : Case → Span
@@ -212,7 +212,7 @@ module _ (frontends : ℕ) (s : List ℕ) (r : Request) (i : RequestIs frontends
       (λ x b. rw (b .1 (r .method), b .0) (sym (b .2 (firstValue (valuesOf 3 (headerLines s)))))) c n
   lines-told c session (follows-refused e n) =
       rw e
-      (refused-told (reading.readingStep (r .refusal)) (textAt s (wordAt (Reading (r .refusal)))) (firstValue (valuesOf 3 (headerLines s))) (replyTo (Reading (r .refusal)) r session)
+      (refused-told (readingRule (r .refusal) .0) (textAt s (wordAt (Reading (r .refusal)))) (firstValue (valuesOf 3 (headerLines s))) (replyTo (Reading (r .refusal)) r session)
       (λ y. rw n (text-held s _ (r .require) (i .require (required-by y))))
       ∙ rw n)
 
@@ -228,13 +228,13 @@ module _ (frontends : ℕ) (s : List ℕ) (r : Request) (i : RequestIs frontends
   word-short c (follows-passed p n) = omega (arith, text-within s (wordAt c), asked-short frontends s (sym (i .refusal) ∙ p))
   word-short c (follows-refused e n) =
       rw (e, n)
-      (by-test (λ _. length (textAt s (r .require)) ≤ 2048) (eqb (reading.readingStep (r .refusal)) 5)
+      (by-test (λ _. length (textAt s (r .require)) ≤ 2048) (eqb (readingRule (r .refusal) .0) 5)
       (λ y. let h = required-by y in
-      omega (arith, text-within s (r .require), head-short s (λ z. let k : _≡_ {A = ℕ} 5 1 = ap reading.readingStep (sym h ∙ z) in omega arith)))
-      (λ z. rw (text-none (eqb-false (reading.readingStep (r .refusal)) 5 z)) (omega arith)))
+      omega (arith, text-within s (r .require), head-short s (λ z. let k : _≡_ {A = ℕ} 5 1 = ap (λ r. readingRule r .0) (sym h ∙ z) in omega arith)))
+      (λ z. rw (text-none (eqb-false (readingRule (r .refusal) .0) 5 z)) (omega arith)))
 
 -- EVERY ANSWER FITS
-status-read : (q : Refusal) → reading.readingStatus q < 1000
+status-read : (q : Refusal) → readingRule q .1 < 1000
 status-read refusal.Passed = omega arith
 status-read refusal.Layout = omega arith
 status-read refusal.CSeq = omega arith

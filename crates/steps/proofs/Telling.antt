@@ -11,7 +11,7 @@ use lib.ListN.{length, drop, getD}
 use lib.Seq.{ext-getD}
 use borrow.Author.Tests.{ltb-true, leb-true, eqb-true, le-ltb, lt-ltb}
 use Rattle.scan.specs.Text.{text}
-use Rattle.scan.specs.Lists.{part}
+use Rattle.scan.specs.Lists.{part, _gives_or_}
 use Rattle.scan.proofs.Bools.{by-cases, cond-keeps, and-both, or-right}
 use Rattle.scan.proofs.Parts.{holds-length}
 use Rattle.digits.specs.Reading.{readNumber, atLeast}
@@ -26,7 +26,6 @@ use Rattle.stream.specs.Arrays.{kept, isFit, areFit, isIn}
 use Rattle.stream.proofs.Fitting.{all-in, fit-of, read-ranged}
 use Rattle.aim.specs.Query.{codeFrom, codeOf, textOf}
 use Rattle.aim.specs.Aim.{queryIn, codeIn}
-use Rattle.refusals.specs.Refusals.{_refuses_or_, readingStep}
 use Rattle.refusals.specs.declared.Refusal.{Refusal}
 use Rattle.refusals.specs.declared.Refusal.the-variants.{Passed, Layout}
 use Rattle.reader.specs.Fields.{transportOf, portsIn, portFrom}
@@ -37,6 +36,7 @@ use Rattle.reader.specs.Request.{uriOf, headRefusal, requestRefusal}
 use Rattle.reader.specs.declared.Request.{Request}
 use Rattle.steps.specs.Asked.{codesIn, askedOf, listsOf}
 use Rattle.steps.specs.Handed.{askedBy, listsBy, Told}
+use Rattle.refusals.specs.Refusals.{readingRule}
 
 -- THE CODES, by the attribute's place
 -- so many numbers from n on
@@ -137,7 +137,7 @@ pub head-short : (s : List ℕ) → (headRefusal s ≡ Layout → ⊥) → lengt
 unfolding headRefusal isLaidOut
 head-short s h = leb-true (length s) 2048 (and-both (leb (length s) 2048) _ (laid (isLaidOut s) _ h) .0)
   where
-    laid : (t : Bool) (rest : Refusal) → ((not t refuses Layout or rest) ≡ Layout → ⊥) → t ≡ true
+    laid : (t : Bool) (rest : Refusal) → ((not t gives Layout or rest) ≡ Layout → ⊥) → t ≡ true
     laid true rest k = refl
     laid false rest k = absurd (k refl)
 
@@ -146,4 +146,4 @@ unfolding requestRefusal
 request-short frontends s h = head-short s (λ e. h (rw e))
 
 pub asked-short : (frontends : ℕ) (s : List ℕ) → requestRefusal frontends s ≡ Passed → length s ≤ 2048
-asked-short frontends s p = request-short frontends s (λ e. let n : _≡_ {A = ℕ} 0 1 = ap readingStep (sym p ∙ e) in omega arith)
+asked-short frontends s p = request-short frontends s (λ e. let n : _≡_ {A = ℕ} 0 1 = ap (λ r. readingRule r .0) (sym p ∙ e) in omega arith)

@@ -2,14 +2,14 @@
 use Prim.Native.Nat.{ℕ}
 use lib.Dec.{eqb}
 use mathlib.Core.Bool.{Bool, true, false, not}
-use Rattle.refusals.specs.Refusals as reading
-use Rattle.refusals.specs.Refusals.{_refuses_or_}
 use Rattle.steps.specs.declared.cases.Case.{Case}
 use Rattle.steps.specs.declared.cases.Case.the-variants.{Passed, Reading, NoSession, NotLive, State, NotOwner, Transport, Combination, TooManyPids, Full}
+use Rattle.scan.specs.Lists.{_gives_or_}
+use Rattle.refusals.specs.Refusals.{readingRule}
 
 abbrev pub ruleOf : Case → ℕ × ℕ
 ruleOf Passed = (0, 200)
-ruleOf (Reading refusal) = (reading.readingStep refusal, reading.readingStatus refusal)
+ruleOf (Reading refusal) = readingRule refusal
 ruleOf NoSession = (11, 454)
 ruleOf NotLive = (12, 404)
 ruleOf State = (13, 455)
@@ -29,4 +29,4 @@ abbrev pub isPassed : Case → Bool
 isPassed c = eqb (stepOf c) 0
 
 abbrev pub orElse : Case → Case → Case
-orElse c d = not (isPassed c) refuses c or d
+orElse c d = not (isPassed c) gives c or d

@@ -10,7 +10,6 @@ use Rattle.scan.specs.Lists.{_gives_or_, part}
 use Rattle.scan.specs.Found.{Holds}
 use Rattle.scan.specs.declared.Span.{Span}
 use Rattle.aim.specs.Query.{nowhere}
-use Rattle.refusals.specs.Refusals.{readingStep}
 use Rattle.aim.specs.declared.Method.{Method}
 use Rattle.aim.specs.declared.Method.the-variants.{Options, Setup, Play, Teardown, Other}
 use Rattle.refusals.specs.declared.Refusal.{Refusal}
@@ -23,6 +22,7 @@ use Rattle.steps.specs.Asked.{Asked, Lists}
 use Rattle.steps.specs.Cases.{statusOf, isPassed}
 use Rattle.steps.specs.declared.cases.Case.{Case}
 use Rattle.steps.specs.declared.cases.Case.the-variants.{Passed, Reading, NoSession, NotLive, State, NotOwner, Transport, Combination, TooManyPids, Full}
+use Rattle.refusals.specs.Refusals.{readingRule}
 
 abbrev pub askedBy : Request → Asked
 askedBy r =
@@ -55,9 +55,9 @@ pub record Told (s : List ℕ) (r : Request) : Type 0 where
 -- WHICH ANSWER IT GETS
 abbrev pub refusedKind : Refusal → Kind
 refusedKind refusal =
-    eqb (readingStep refusal) 5 gives kind.Unsupported or
-    eqb (readingStep refusal) 6 gives kind.Public or
-    eqb (readingStep refusal) 10 gives kind.Allow or
+    eqb (readingRule refusal .0) 5 gives kind.Unsupported or
+    eqb (readingRule refusal .0) 6 gives kind.Public or
+    eqb (readingRule refusal .0) 10 gives kind.Allow or
     kind.Bare
 
 abbrev pub grantedKind : Method → Kind

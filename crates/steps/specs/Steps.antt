@@ -2,13 +2,13 @@
 use Prim.Native.Nat.{ℕ}
 use mathlib.Core.Bool.{Bool, true, false, not, _&&_, _||_}
 use lib.Dec.{eqb, ltb}
-use Rattle.refusals.specs.Refusals.{_refuses_or_}
 use Rattle.aim.specs.Aim.{methodNumber}
 use Rattle.aim.specs.declared.Method.{Method}
 use Rattle.table.specs.Table.{owns}
 use Rattle.steps.specs.declared.cases.Case.{Case}
 use Rattle.steps.specs.declared.cases.Case.the-variants.{Passed, NoSession, NotLive, State, NotOwner, Transport}
 use Rattle.steps.specs.declared.Sight.{Sight}
+use Rattle.scan.specs.Lists.{_gives_or_}
 
 abbrev pub isSetup : Method → Bool
 isSetup m = eqb (methodNumber m) 1
@@ -47,9 +47,9 @@ lacksPort v = isSetup (v .method) && eqb (v .port) 0
 
 unfoldable pub tableCase : Sight → Case
 tableCase v =
-    lacksSession v refuses NoSession or
-    namesDead v refuses NotLive or
-    isOutOfState v refuses State or
-    isAnothers v refuses NotOwner or
-    lacksPort v refuses Transport or
+    lacksSession v gives NoSession or
+    namesDead v gives NotLive or
+    isOutOfState v gives State or
+    isAnothers v gives NotOwner or
+    lacksPort v gives Transport or
     Passed
