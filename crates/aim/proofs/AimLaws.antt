@@ -1,14 +1,15 @@
 -- A URI's refusal: which of the tests of steps 7 to 10 applies first. Assumes nothing.
 use mathlib.Core.Path.{_≡_, refl, ap, _∙_, sym}
-use mathlib.Core.Bool.{Bool, true, false, not, _&&_, _||_}
+use mathlib.Core.Bool.{Bool, true, false, not, cond, _&&_, _||_}
 use mathlib.Core.List.{List, []}
 use Prim.Native.Nat.{ℕ, _+_, _≤_, _<_}
 use native.Mathlib.Decide.{ℕ-discrete}
 use native.Mathlib.Omega.{arith}
 use lib.Dec.{ltb, eqb}
-use lib.ListN.{length, getD, replicate}
-use borrow.Author.Tests.{lt-ltb, le-ltb}
-use Rattle.scan.specs.Lists.{part, _gives_or_}
+use lib.ListN.{length, getD, replicate, drop-of-length-le}
+use borrow.Author.Tests.{lt-ltb, le-ltb, ltb-false}
+use Rattle.scan.specs.Lists.{all, part, first, _gives_or_}
+use Rattle.scan.specs.Cut.{is, cut}
 use Rattle.scan.specs.Found.{Holds}
 use Rattle.scan.specs.declared.Span.{Span}
 use Rattle.scan.proofs.Bools.{never, by-cases}
@@ -16,8 +17,8 @@ use Rattle.scan.proofs.Parts.{all-same, holds-nothing, holds-length}
 use Rattle.target.specs.Uri.{isUri, hasQuery, queryOf}
 use Rattle.target.specs.Steps.{UriIs}
 use Rattle.target.specs.declared.Uri.{Uri}
-use Rattle.aim.specs.Query.{isQuery, areWithin, codeFrom, textOf, nowhere}
-use Rattle.aim.specs.Found.{QueryIs, Reached, refusedAim, verdictOf, isSpan, AimIs, judged}
+use Rattle.aim.specs.Query.{areParts, textIn, codeFrom, codeIn}
+use Rattle.aim.specs.Found.{isWithin, textOf, nowhere, QueryIs, Reached, refusedAim, verdictOf, isSpan, AimIs, judged}
 use Rattle.refusals.specs.Refusals.{isRead}
 use Rattle.aim.specs.Aim.{takesNoQuery, hasStream, lacksStream, uriRefusal}
 use Rattle.refusals.specs.declared.Refusal.{Refusal}
@@ -25,6 +26,7 @@ use Rattle.refusals.specs.declared.Refusal.the-variants.{Passed, UriLong, UriFo
 use Rattle.aim.specs.declared.Method.{Method}
 use Rattle.aim.specs.declared.Aim.{Aim}
 use Rattle.aim.specs.declared.query.Query.{Query}
+use Rattle.tuning.proofs.Words.{value-none}
 
 -- a refused URI
 pub aim-refused : {frontends : ℕ} {method : Method} {u : List ℕ} {r : Aim} {x : Refusal} → isRead x ≡ false → x ≡ uriRefusal frontends method u → r ≡ refusedAim x → AimIs frontends method u r
@@ -63,34 +65,45 @@ module _ (frontends : ℕ) (method : Method) (u : List ℕ) {t : Uri} {b : Bool}
   pub stream-named : {s : Bool} → s ≡ not (eqb (t .stream) 0) → s ≡ hasStream u
   stream-named e = e ∙ ap (λ x. not (eqb (codeFrom x) 0)) (r .is .stream (r .sound))
 
+  abbrev ps : List (List ℕ)
+  ps = cond b (cut 38 (queryOf u)) []
+
+  abbrev some : ℕ → Bool
+  some a = ltb 0 (length (textIn a ps))
+
   chain : uriRefusal frontends method u
       ≡ (b && takesNoQuery method) gives QueryUntaken or
-      (b && not (isQuery (queryOf u))) gives QueryForm or
-      judged ((b && ltb 0 (length (textOf 10 (queryOf u)))) && ((b && ltb 0 (length (textOf 11 (queryOf u)))) || (b && ltb 0 (length (textOf 12 (queryOf u))))))
-      (((b && ltb 0 (length (textOf 11 (queryOf u)))) || (b && ltb 0 (length (textOf 12 (queryOf u))))) && not (hasStream u))
-      (b && not (areWithin frontends (queryOf u)))
+      not (areParts [] ps) gives QueryForm or
+      judged (some 10 && (some 11 || some 12))
+      ((some 11 || some 12) && not (hasStream u))
+      (not (all (isWithin frontends) ps))
       (lacksStream method (hasStream u) b)
   unfolding uriRefusal
   chain = rw (le-ltb 1024 (length u) (r .short), sound, asks)
 
 -- A URI WITHOUT A QUERY
+pub unqueried : (u : List ℕ) → hasQuery u ≡ false → queryOf u ≡ []
+unqueried u e = drop-of-length-le u {i = first (is 63) u + 1} (omega (arith, ltb-false (first (is 63) u) (length u) e))
+
 module _ (frontends : ℕ) (method : Method) (u : List ℕ) {t : Uri} (r : Reached u t false) {l s : Bool} (e : s ≡ not (eqb (t .stream) 0)) (q : l ≡ lacksStream method s false) where
   lacks-is : l ≡ lacksStream method (hasStream u) false
   lacks-is = q ∙ ap (λ x. lacksStream method x false) (stream-named frontends method u r e)
 
   pub unasked-lacks : l ≡ true → NoStream ≡ uriRefusal frontends method u
+  unfolding textIn
   unasked-lacks y = sym (chain frontends method u r ∙ rw (sym lacks-is ∙ y))
 
   pub unasked-passed : l ≡ false
       → AimIs frontends method u (record { codes = replicate 13 0; spans = replicate 13 nowhere; refusal = Passed; stream = t .stream; host = t .host; query = nowhere })
+  unfolding textIn codeIn
   unasked-passed n =
       record {
         refusal = sym (chain frontends method u r ∙ rw (sym lacks-is ∙ n));
         stream = λ _. r .is .stream (r .sound);
         host = λ _. r .is .host (r .sound);
-        query = λ _. rw (asks frontends method u r) (holds-nothing u);
-        codes = λ _ a. rw (asks frontends method u r, all-same {A = ℕ} 13 a 0);
-        spans = λ _ a. rw (asks frontends method u r, all-same 13 a nowhere) (holds-nothing []);
+        query = λ _. rw (unqueried u (asks frontends method u r)) (holds-nothing u);
+        codes = λ _ a. rw (asks frontends method u r, all-same {A = ℕ} 13 a 0, value-none frontends a);
+        spans = λ _ a. rw (unqueried u (asks frontends method u r), asks frontends method u r, all-same 13 a nowhere) (holds-nothing []);
         host-starts = λ _. r .is .starts (r .sound);
         query-starts = λ _. rw (asks frontends method u r);
         starts = λ _ a. rw (asks frontends method u r, all-same 13 a nowhere);
@@ -136,7 +149,7 @@ module _ (frontends : ℕ) (method : Method) (u : List ℕ) {t : Uri} (r : Reach
             refusal = asked-verdict;
             stream = λ _. r .is .stream (r .sound);
             host = λ _. r .is .host (r .sound);
-            query = λ _. rw (asks frontends method u r) (query-held u r);
+            query = λ _. query-held u r;
             codes = λ _ a. rw (asks frontends method u r) (own .codes y a);
             spans = λ _ a. rw (asks frontends method u r) (own .spans y a);
             host-starts = λ _. r .is .starts (r .sound);

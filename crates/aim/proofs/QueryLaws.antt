@@ -11,7 +11,7 @@ use lib.Seq.{getD-set-same, getD-set-other}
 use borrow.Author.Tests.{ltb-true, lt-ltb, le-ltb, eq-eqb, ne-eqb}
 use Rattle.scan.specs.Lists.{all, part, first}
 use Rattle.scan.specs.Found.{Holds, FirstOf, FirstFrom, cutFrom}
-use Rattle.scan.specs.Cut.{is}
+use Rattle.scan.specs.Cut.{is, cut}
 use Rattle.scan.specs.declared.Span.{Span}
 use Rattle.scan.proofs.Bools.{never, by-test, by-cases}
 use Rattle.scan.proofs.Cuts.{cut-start, cut-turn, cut-end}
@@ -19,8 +19,8 @@ use Rattle.scan.proofs.Parts.{part-length, part-part, part-rest, all-same, hold
 use Rattle.digits.specs.Reading.{isValue}
 use Rattle.digits.specs.declared.Read.{Read}
 use Rattle.tuning.specs.Values.{attributeOf, valueOf}
-use Rattle.aim.specs.Query.{attributeIn, areParts, isQuery, areWithin, codeFrom, codeOf, textOf, nowhere, partsOf}
-use Rattle.aim.specs.Found.{codeAmong, textAmong, isPart, equals, partValue, isNamedBefore, isWithin, startAmong, startOf, PartIs, brokenQuery, QueryIs}
+use Rattle.aim.specs.Query.{attributeIn, areParts, codeFrom, textIn, codeIn}
+use Rattle.aim.specs.Found.{isQuery, areWithin, codeOf, textOf, nowhere, codeAmong, textAmong, isPart, equals, partValue, isNamedBefore, isWithin, startAmong, startOf, PartIs, brokenQuery, QueryIs}
 use Rattle.aim.specs.declared.query.Part.{Part}
 use Rattle.aim.specs.declared.query.Query.{Query}
 use Rattle.tuning.proofs.Words.{value-none}
@@ -62,9 +62,9 @@ value-inside q p e {r} k i h =
     omega arith
 
 -- AN ATTRIBUTE'S TEXT AND CODE, part by part
-pub text-among : (a : ℕ) (q : List ℕ) → textOf a q ≡ textAmong a (partsOf q)
-unfolding textOf
-text-among a q = among (partsOf q)
+pub text-among : (a : ℕ) (ps : List (List ℕ)) → textIn a ps ≡ textAmong a ps
+unfolding textIn
+text-among a = among
   where
     among : (ps : List (List ℕ)) → partValue (getD ps (first (λ p. eqb (attributeIn p) a) ps) []) ≡ textAmong a ps
     among [] = refl
@@ -73,9 +73,9 @@ text-among a q = among (partsOf q)
         (λ _. refl)
         (λ _. among ps)
 
-pub code-among : (frontends a : ℕ) (q : List ℕ) → codeOf frontends a q ≡ codeAmong frontends a (partsOf q)
-unfolding codeOf
-code-among frontends a q = ap (λ xs. codeFrom (valueOf frontends a xs)) (text-among a q) ∙ among (partsOf q)
+pub code-among : (frontends a : ℕ) (ps : List (List ℕ)) → codeIn frontends a ps ≡ codeAmong frontends a ps
+unfolding codeIn
+code-among frontends a ps = ap (λ xs. codeFrom (valueOf frontends a xs)) (text-among a ps) ∙ among ps
   where
     among : (ps : List (List ℕ)) → codeFrom (valueOf frontends a (textAmong a ps)) ≡ codeAmong frontends a ps
     among [] = ap codeFrom (value-none frontends a)
@@ -105,7 +105,7 @@ pub record Asking (frontends : ℕ) (q : List ℕ) (p : ℕ) (codes : List ℕ) 
   pub held : (a : ℕ) → Spanned q (textOf a q) (textAmong a (cutFrom 38 p q)) (isNamedBefore a taken) (getD spans a nowhere)
 
 pub asking-start : (frontends : ℕ) (q : List ℕ) → Asking frontends q 0 (replicate 13 0) (replicate 13 nowhere) true
-unfolding isQuery areWithin startOf
+unfolding startOf
 asking-start frontends q =
     record {
       inside = omega arith;
@@ -115,11 +115,11 @@ asking-start frontends q =
       form = ap (areParts []) (sym (cut-start 38 q));
       marked = λ a. rw (all-same 13 a nowhere);
       values = ap (all (isWithin frontends)) (sym (cut-start 38 q));
-      coded = λ a. code-among frontends a q ∙ ap (codeAmong frontends a) (cut-start 38 q);
+      coded = λ a. code-among frontends a (cut 38 q) ∙ ap (codeAmong frontends a) (cut-start 38 q);
       blank = λ a _. all-same 13 a 0;
       begins = λ a. ap (startAmong a 0) (cut-start 38 q);
       unbegun = λ a _. ap (λ (s : Span). s .start) (all-same 13 a nowhere);
-      held = λ a. rw (all-same 13 a nowhere) (record { there = λ y. never y refl; later = λ _. (text-among a q ∙ ap (textAmong a) (cut-start 38 q), holds-nothing q) });
+      held = λ a. rw (all-same 13 a nowhere) (record { there = λ y. never y refl; later = λ _. (text-among a (cut 38 q) ∙ ap (textAmong a) (cut-start 38 q), holds-nothing q) });
     }
 
 pub query-broken : {frontends : ℕ} {q : List ℕ} {r : Query} → isQuery q ≡ false → r ≡ brokenQuery → QueryIs frontends q r

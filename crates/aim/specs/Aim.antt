@@ -1,17 +1,20 @@
 -- Document 01, "The answer, first that applies", steps 7 to 10: of a request's URI. Assumes nothing.
 use Prim.Native.Nat.{ℕ}
-use mathlib.Core.Bool.{Bool, not, cond, _&&_, _||_}
+use mathlib.Core.Bool.{Bool, not, _&&_, _||_}
 use mathlib.Core.List.{List, []}
 use lib.Dec.{ltb, eqb}
 use lib.ListN.{length}
-use Rattle.target.specs.Uri.{isUri, streamNamed, hasQuery, queryOf}
-use Rattle.aim.specs.Query.{isQuery, areWithin, codeOf, textOf, codeFrom}
+use Rattle.digits.specs.Reading.{isValue}
+use Rattle.target.specs.Uri.{isUri, streamNamed, hasQuery}
+use Rattle.tuning.specs.Values.{valueOf}
+use Rattle.aim.specs.Query.{partsOf, attributeIn, areParts, textIn, codeFrom}
 use Rattle.refusals.specs.declared.Refusal.{Refusal}
 use Rattle.refusals.specs.declared.Refusal.the-variants.{Passed, UriLong, UriForm, QueryUntaken, QueryForm, PidsClash, PidsUnstreamed, NoStream}
 use Rattle.refusals.specs.declared.Refusal.the-variants.{Value as Outside}
 use Rattle.aim.specs.declared.Method.{Method}
 use Rattle.aim.specs.declared.Method.the-variants.{Options, Setup, Play, Teardown, Other}
-use Rattle.scan.specs.Lists.{_gives_or_}
+use Rattle.scan.specs.Lists.{all, _gives_or_}
+use Rattle.scan.specs.Cut.{after}
 
 -- a method's place among OPTIONS, SETUP, PLAY, TEARDOWN, from 0 on; 4 for any other
 abbrev pub methodNumber : Method → ℕ
@@ -31,7 +34,7 @@ hasStream u = not (eqb (codeFrom (streamNamed u)) 0)
 
 -- whether an attribute is given: 10 is pids, 11 addpids, 12 delpids
 abbrev pub isGiven : ℕ → List ℕ → Bool
-isGiven a u = hasQuery u && ltb 0 (length (textOf a (queryOf u)))
+isGiven a u = ltb 0 (length (textIn a (partsOf u)))
 
 abbrev pub edits : List ℕ → Bool
 edits u = isGiven 11 u || isGiven 12 u
@@ -46,19 +49,9 @@ uriRefusal frontends method u =
     ltb 1024 (length u) gives UriLong or
     not (isUri u) gives UriForm or
     (hasQuery u && takesNoQuery method) gives QueryUntaken or
-    (hasQuery u && not (isQuery (queryOf u))) gives QueryForm or
+    not (areParts [] (partsOf u)) gives QueryForm or
     (isGiven 10 u && edits u) gives PidsClash or
     (edits u && not (hasStream u)) gives PidsUnstreamed or
-    (hasQuery u && not (areWithin frontends (queryOf u))) gives Outside or
+    not (all (λ p. isValue (valueOf frontends (attributeIn p) (after 61 p))) (partsOf u)) gives Outside or
     lacksStream method (hasStream u) (hasQuery u) gives NoStream or
     Passed
-
--- what a URI asks: an attribute's code, 0 where it is not given, its text, empty there, and the query
-abbrev pub codeIn : ℕ → ℕ → List ℕ → ℕ
-codeIn frontends a u = cond (hasQuery u) (codeOf frontends a (queryOf u)) 0
-
-abbrev pub textIn : ℕ → List ℕ → List ℕ
-textIn a u = cond (hasQuery u) (textOf a (queryOf u)) []
-
-abbrev pub queryIn : List ℕ → List ℕ
-queryIn u = cond (hasQuery u) (queryOf u) []

@@ -9,7 +9,7 @@ use lib.ListN.{length, getD, replicate}
 use Rattle.scan.specs.Found.{Holds, placeIn}
 use Rattle.aim.specs.declared.query.Part.{Part}
 use Rattle.aim.specs.declared.query.Query.{Query}
-use Rattle.aim.specs.Query.{areWithin, attributeIn, codeOf, isQuery, nowhere, partsOf, textOf, codeFrom}
+use Rattle.aim.specs.Query.{partsOf, attributeIn, areParts, textIn, codeFrom, codeIn}
 use Rattle.scan.specs.declared.Span.{Span}
 use Rattle.digits.specs.declared.Read.the-variants.{Value as Number}
 use Rattle.target.specs.Uri.{streamNamed, hostOf, hasQuery, queryOf}
@@ -20,12 +20,28 @@ use Rattle.refusals.specs.declared.Refusal.{Refusal}
 use Rattle.refusals.specs.declared.Refusal.the-variants.{Passed, PidsClash, PidsUnstreamed, NoStream}
 use Rattle.aim.specs.declared.Method.{Method}
 use Rattle.aim.specs.declared.Aim.{Aim}
-use Rattle.aim.specs.Aim.{codeIn, lacksStream, queryIn, textIn, uriRefusal}
-use Rattle.scan.specs.Lists.{first, _gives_or_}
-use Rattle.scan.specs.Cut.{is, after}
+use Rattle.aim.specs.Aim.{lacksStream, uriRefusal}
+use Rattle.scan.specs.Lists.{all, first, _gives_or_}
+use Rattle.scan.specs.Cut.{is, after, cut}
 use Rattle.digits.specs.Reading.{isValue}
 use Rattle.tuning.specs.Values.{valueOf}
 use Rattle.refusals.specs.declared.Refusal.the-variants.{Value as Outside}
+
+abbrev pub nowhere : Span
+nowhere = record { start = 0; end = 0 }
+
+-- a query's bytes: its form, whether its values are in the table, an attribute's text and code
+abbrev pub isQuery : List ℕ → Bool
+isQuery q = areParts [] (cut 38 q)
+
+abbrev pub areWithin : ℕ → List ℕ → Bool
+areWithin frontends q = all (λ p. isValue (valueOf frontends (attributeIn p) (after 61 p))) (cut 38 q)
+
+abbrev pub textOf : ℕ → List ℕ → List ℕ
+textOf a q = textIn a (cut 38 q)
+
+abbrev pub codeOf : ℕ → ℕ → List ℕ → ℕ
+codeOf frontends a q = codeIn frontends a (cut 38 q)
 
 abbrev pub equals : List ℕ → ℕ
 equals p = first (is 61) p
@@ -58,7 +74,7 @@ abbrev pub startAmong : ℕ → ℕ → List (List ℕ) → ℕ
 startAmong a at ps = placeIn (λ p. eqb (attributeIn p) a) (λ p. equals p + 1) 1 at ps
 
 unfoldable pub startOf : ℕ → List ℕ → ℕ
-startOf a q = startAmong a 0 (partsOf q)
+startOf a q = startAmong a 0 (cut 38 q)
 
 -- what one part is: its attribute, and where its value starts
 pub record PartIs (p : List ℕ) (r : Part) : Type 0 where
@@ -125,9 +141,9 @@ pub record AimIs (frontends : ℕ) (method : Method) (u : List ℕ) (r : Aim) : 
   pub refusal : r .refusal ≡ uriRefusal frontends method u
   pub stream : r .refusal ≡ Passed → Number (r .stream) ≡ streamNamed u
   pub host : r .refusal ≡ Passed → Holds u (hostOf u) (r .host .start) (r .host .end)
-  pub query : r .refusal ≡ Passed → Holds u (queryIn u) (r .query .start) (r .query .end)
-  pub codes : r .refusal ≡ Passed → (a : ℕ) → getD (r .codes) a 0 ≡ codeIn frontends a u
-  pub spans : r .refusal ≡ Passed → (a : ℕ) → Holds (queryIn u) (textIn a u) (getD (r .spans) a nowhere .start) (getD (r .spans) a nowhere .end)
+  pub query : r .refusal ≡ Passed → Holds u (queryOf u) (r .query .start) (r .query .end)
+  pub codes : r .refusal ≡ Passed → (a : ℕ) → getD (r .codes) a 0 ≡ codeIn frontends a (partsOf u)
+  pub spans : r .refusal ≡ Passed → (a : ℕ) → Holds (queryOf u) (textIn a (partsOf u)) (getD (r .spans) a nowhere .start) (getD (r .spans) a nowhere .end)
   pub host-starts : r .refusal ≡ Passed → r .host .start ≡ 7
   pub query-starts : r .refusal ≡ Passed → r .query .start ≡ queryStart u
   pub starts : r .refusal ≡ Passed → (a : ℕ) → getD (r .spans) a nowhere .start ≡ startIn a u

@@ -22,9 +22,9 @@ use Rattle.target.specs.Line.{linePart}
 use Rattle.target.specs.Steps.{PartsAre, UriIs}
 use Rattle.target.specs.declared.Parts.{Parts}
 use Rattle.target.specs.declared.Uri.{Uri}
-use Rattle.aim.specs.Query.{nowhere, codeFrom}
+use Rattle.aim.specs.Query.{codeFrom}
+use Rattle.aim.specs.Found.{nowhere, AimIs}
 use Rattle.refusals.specs.Refusals.{isRead, readingRule}
-use Rattle.aim.specs.Found.{AimIs}
 use Rattle.aim.specs.declared.Aim.{Aim}
 use Rattle.aim.specs.declared.Method.{Method as Methods}
 use Rattle.refusals.specs.declared.Refusal.{Refusal}

@@ -11,7 +11,7 @@ use Rattle.scan.specs.Lists.{all}
 use Rattle.scan.proofs.Bools.{Case as Test, case, is, isnt, Same, sames, same, other, and-both, or-second}
 use Rattle.target.specs.Uri.{hasQuery, queryOf}
 use Rattle.tuning.specs.Values.{valueOf}
-use Rattle.aim.specs.Query.{partsOf, attributeIn, areWithin}
+use Rattle.aim.specs.Query.{partsOf, attributeIn}
 use Rattle.aim.specs.Found.{codeAmong, partValue, isWithin}
 use Rattle.aim.specs.Aim.{uriRefusal}
 use Rattle.refusals.specs.Refusals.{isRead}
@@ -62,7 +62,7 @@ abbrev isNoFe : List ℕ → Bool
 isNoFe p = not (eqb (attributeIn p) 1)
 
 abbrev pub givesNoFe : List ℕ → Bool
-givesNoFe s = all isNoFe (partsOf (queryOf (uriOf s)))
+givesNoFe s = all isNoFe (partsOf (uriOf s))
 
 module _ (frontends : ℕ) where
   value-alike : (a : ℕ) (xs : List ℕ) → eqb a 1 ≡ false → valueOf frontends a xs ≡ valueOf 2 a xs
@@ -88,15 +88,15 @@ module _ (frontends : ℕ) where
 
   module _ (s : List ℕ) (e : givesNoFe s ≡ true) where
     refusal-alike : requestRefusal frontends s ≡ requestRefusal 2 s
-    unfolding requestRefusal uriRefusal areWithin
-    refusal-alike = rw (within-alike (partsOf (queryOf (uriOf s))) e)
+    unfolding requestRefusal uriRefusal
+    refusal-alike = rw (within-alike (partsOf (uriOf s)) e)
 
     codes-alike : codesIn frontends (uriOf s) ≡ codesIn 2 (uriOf s)
     unfolding codesIn
     codes-alike =
-        let q : List ℕ = queryOf (uriOf s) in
+        let ps : List (List ℕ) = partsOf (uriOf s) in
         ap (λ f. map f (0 ∷ 1 ∷ 2 ∷ 3 ∷ 4 ∷ 5 ∷ 6 ∷ 7 ∷ 8 ∷ 9 ∷ 10 ∷ 11 ∷ 12 ∷ []))
-        (fun-ext (λ a. ap (λ code. cond (hasQuery (uriOf s)) code 0) (code-among frontends a q ∙ code-alike a (partsOf q) e ∙ sym (code-among 2 a q))))
+        (fun-ext (λ a. code-among frontends a ps ∙ code-alike a ps e ∙ sym (code-among 2 a ps)))
 
     asked-alike : askedOf frontends s ≡ askedOf 2 s
     asked-alike = rw codes-alike

@@ -14,7 +14,7 @@ use Rattle.writing.specs.Writing.{decimal, hex8, dotted, width, numeral, writte
 use Rattle.lines.specs.Lines.{isLaidOut, requestLine, headerLines}
 use Rattle.tuning.specs.Values.{attributeOf, valueOf, frequency, arePids}
 use Rattle.target.specs.Uri.{isUri, streamOfPath}
-use Rattle.aim.specs.Query.{isQuery, areWithin, attributeIn, codeOf, textOf}
+use Rattle.aim.specs.Query.{attributeIn, textIn, codeIn}
 use Rattle.aim.specs.Aim.{uriRefusal}
 use Rattle.aim.specs.declared.Method.the-variants.{Setup}
 use Rattle.refusals.specs.declared.Refusal.{Refusal}
@@ -57,7 +57,7 @@ use Rattle.promises.proofs.EdgeLaws.{drawn-first, RefusedAs, ReadsAs, r
 
 -- Named on a proof's `unfolding` line, these let meanings be worked out there: of reading, of lists of PIDs, of serving; and all of them
 unfoldable pub reading : ℕ
-unfolding requestRefusal headRefusal cseqOf cseqFrom isLaidOut requestLine headerLines methodIn uriRefusal isUri streamOfPath isQuery areWithin attributeIn attributeOf valueOf frequency arePids placeAmong readNumber readHex8 codesIn codeOf textOf sessionOf sessionIn transportOf
+unfolding requestRefusal headRefusal cseqOf cseqFrom isLaidOut requestLine headerLines methodIn uriRefusal isUri streamOfPath attributeIn attributeOf valueOf frequency arePids placeAmong readNumber readHex8 codesIn codeIn textIn sessionOf sessionIn transportOf
 reading = 0
 
 unfoldable pub listing : ℕ

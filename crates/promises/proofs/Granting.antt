@@ -37,6 +37,9 @@ use Rattle.serving.proofs.Branching.{tears-down}
 use Rattle.promises.proofs.Asks.{example, box, home, verdict, ask, after}
 use Rattle.promises.proofs.Edges.{meanings}
 use Rattle.scan.specs.Lists.{_gives_or_}
+use Rattle.aim.specs.Query.{textIn, codeIn}
+use Rattle.aim.proofs.AimLaws.{unqueried}
+use Rattle.tuning.proofs.Words.{value-none}
 
 -- what no refusal of a chain stops
 goes-on : (b : Bool) (c d : Refusal) → reading.isRead c ≡ false → (b gives c or d) ≡ refusal.Passed → (b ≡ false) × (d ≡ refusal.Passed)
@@ -75,11 +78,11 @@ module _ (s : List ℕ) (address draw : ℕ) (t : SatBox) (read : requestRefusal
         by (isnt n) = n
 
     no-query : a .query ≡ false
-    no-query = rw unasked
+    no-query = rw (unqueried (uriOf s) unasked)
 
     no-fe : getD (a .codes) 1 0 ≡ 0
-    unfolding codesIn
-    no-fe = rw unasked
+    unfolding codesIn codeIn textIn
+    no-fe = rw (unasked, value-none (t .settings .frontends) 1)
 
   module _ (named : place < 32) where
     -- OPTIONS

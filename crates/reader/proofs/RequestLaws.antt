@@ -30,10 +30,9 @@ use Rattle.target.specs.Steps.{PartsAre}
 use Rattle.target.specs.declared.Parts.{Parts}
 use Rattle.reader.specs.Fields.{cseqFrom, sessionOf, sessionIn, transportOf}
 use Rattle.reader.specs.Heads.{headText, cseqAt, sessionSeen, areTwice, Begun, Headed, Passing, uriStart, refusedRequest, RequestIs, isOther, isVersion}
-use Rattle.aim.specs.Query.{nowhere}
+use Rattle.aim.specs.Found.{nowhere, AimIs}
 use Rattle.refusals.specs.Refusals.{isRead, readingRule}
 use Rattle.reader.specs.Request.{methodIn, cseqOf, isTwice, methodOf, uriOf, headRefusal, requestRefusal}
-use Rattle.aim.specs.Found.{AimIs}
 use Rattle.refusals.specs.declared.Refusal.{Refusal}
 use Rattle.refusals.specs.declared.Refusal.the-variants.{Passed, Layout, CSeq, RequestLine, HeaderTwice, Version, Require, UriLong, UriForm, QueryUntaken, QueryForm, PidsClash, PidsUnstreamed, NoStream}
 use Rattle.refusals.specs.declared.Refusal.the-variants.{Method as OtherMethod, Value as Outside}

@@ -20,12 +20,12 @@ use Rattle.lines.specs.declared.Lines.{Lines}
 use Rattle.target.specs.Steps.{PartsAre}
 use Rattle.target.specs.declared.Parts.{Parts}
 use Rattle.reader.specs.Fields.{sessionIn, sessionOf, transportOf}
-use Rattle.target.specs.Uri.{streamNamed, hostOf}
-use Rattle.aim.specs.Query.{nowhere}
+use Rattle.target.specs.Uri.{streamNamed, hostOf, queryOf}
+use Rattle.aim.specs.Found.{nowhere, queryStart, startIn}
 use Rattle.refusals.specs.Refusals.{isRead}
 use Rattle.reader.specs.Request.{cseqOf, isTwice, methodOf, uriOf, requestRefusal, headRefusal}
-use Rattle.aim.specs.Aim.{queryIn, textIn, codeIn, methodNumber}
-use Rattle.aim.specs.Found.{queryStart, startIn}
+use Rattle.aim.specs.Aim.{methodNumber}
+use Rattle.aim.specs.Query.{partsOf, textIn, codeIn}
 use Rattle.aim.specs.declared.Method.{Method}
 use Rattle.aim.specs.declared.Aim.{Aim}
 use Rattle.reader.specs.declared.fields.Session.{Session}
@@ -104,9 +104,9 @@ pub record Passing (frontends : ℕ) (s : List ℕ) (l : Lines) (cseq : Read) (m
   pub method-is : method ≡ methodOf s
   pub stream : Number (a .stream) ≡ streamNamed (uriOf s)
   pub host : Holds s (hostOf (uriOf s)) (from + a .host .start) (from + a .host .end)
-  pub query : Holds s (queryIn (uriOf s)) (from + a .query .start) (from + a .query .end)
-  pub codes : (k : ℕ) → getD (a .codes) k 0 ≡ codeIn frontends k (uriOf s)
-  pub spans : (k : ℕ) → Holds (queryIn (uriOf s)) (textIn k (uriOf s)) (getD (a .spans) k nowhere .start) (getD (a .spans) k nowhere .end)
+  pub query : Holds s (queryOf (uriOf s)) (from + a .query .start) (from + a .query .end)
+  pub codes : (k : ℕ) → getD (a .codes) k 0 ≡ codeIn frontends k (partsOf (uriOf s))
+  pub spans : (k : ℕ) → Holds (queryOf (uriOf s)) (textIn k (partsOf (uriOf s))) (getD (a .spans) k nowhere .start) (getD (a .spans) k nowhere .end)
   pub from-is : from ≡ uriStart s
   pub host-starts : a .host .start ≡ 7
   pub query-starts : a .query .start ≡ queryStart (uriOf s)
@@ -140,9 +140,9 @@ pub record RequestIs (frontends : ℕ) (s : List ℕ) (r : Request) : Type 0 whe
   pub method : r .refusal ≡ Passed → r .method ≡ methodOf s
   pub stream : r .refusal ≡ Passed → Number (r .stream) ≡ streamNamed (uriOf s)
   pub host : r .refusal ≡ Passed → Holds s (hostOf (uriOf s)) (r .host .start) (r .host .end)
-  pub query : r .refusal ≡ Passed → Holds s (queryIn (uriOf s)) (r .query .start) (r .query .end)
-  pub codes : r .refusal ≡ Passed → (a : ℕ) → getD (r .codes) a 0 ≡ codeIn frontends a (uriOf s)
-  pub spans : r .refusal ≡ Passed → (a : ℕ) → Holds (queryIn (uriOf s)) (textIn a (uriOf s)) (getD (r .spans) a nowhere .start) (getD (r .spans) a nowhere .end)
+  pub query : r .refusal ≡ Passed → Holds s (queryOf (uriOf s)) (r .query .start) (r .query .end)
+  pub codes : r .refusal ≡ Passed → (a : ℕ) → getD (r .codes) a 0 ≡ codeIn frontends a (partsOf (uriOf s))
+  pub spans : r .refusal ≡ Passed → (a : ℕ) → Holds (queryOf (uriOf s)) (textIn a (partsOf (uriOf s))) (getD (r .spans) a nowhere .start) (getD (r .spans) a nowhere .end)
   pub session : r .refusal ≡ Passed → r .session ≡ sessionOf (valuesOf 1 (headerLines s))
   pub transport : r .refusal ≡ Passed → r .transport ≡ transportOf (firstValue (valuesOf 2 (headerLines s)))
   pub require-starts : headRefusal s ≡ Require → r .require .start ≡ valueStart 3 s

@@ -7,7 +7,7 @@ use native.Mathlib.Omega.{arith}
 use lib.Dec.{eqb, leb, ltb}
 use lib.ListN.{length}
 use borrow.Author.Tests.{eqb-true, eqb-false, le-leb, leb-true}
-use Rattle.scan.specs.Lists.{_gives_or_, part}
+use Rattle.scan.specs.Lists.{_gives_or_, part, all}
 use Rattle.scan.specs.Found.{Holds}
 use Rattle.scan.specs.declared.Span.{Span}
 use Rattle.scan.proofs.Bools.{never, and-both, by-test, cond-keeps}
@@ -20,7 +20,8 @@ use Rattle.lines.specs.Lines.{isLaidOut, requestLine, headerLines}
 use Rattle.lines.specs.Headers.{valuesOf, firstValue}
 use Rattle.target.specs.Line.{isThree}
 use Rattle.target.specs.Uri.{isUri, hostOf, hasQuery, queryOf}
-use Rattle.aim.specs.Query.{nowhere, isQuery, areWithin}
+use Rattle.aim.specs.Query.{partsOf, areParts}
+use Rattle.aim.specs.Found.{nowhere, isWithin}
 use Rattle.aim.specs.Aim.{takesNoQuery, hasStream, isGiven, edits, lacksStream, uriRefusal}
 use Rattle.refusals.specs.Refusals as reading
 use Rattle.aim.specs.declared.Method.{Method}
@@ -127,10 +128,10 @@ uri-step frontends method u =
     keeps (ltb 1024 (length u)) refusal.UriLong _ (λ e. omega arith)
     (keeps (not (isUri u)) refusal.UriForm _ (λ e. omega arith)
     (keeps (hasQuery u && takesNoQuery method) refusal.QueryUntaken _ (λ e. omega arith)
-    (keeps (hasQuery u && not (isQuery (queryOf u))) refusal.QueryForm _ (λ e. omega arith)
+    (keeps (not (areParts [] (partsOf u))) refusal.QueryForm _ (λ e. omega arith)
     (keeps (isGiven 10 u && edits u) refusal.PidsClash _ (λ e. omega arith)
     (keeps (edits u && not (hasStream u)) refusal.PidsUnstreamed _ (λ e. omega arith)
-    (keeps (hasQuery u && not (areWithin frontends (queryOf u))) refusal.Value _ (λ e. omega arith)
+    (keeps (not (all (isWithin frontends) (partsOf u))) refusal.Value _ (λ e. omega arith)
     (keeps (lacksStream method (hasStream u) (hasQuery u)) refusal.NoStream refusal.Passed (λ e. omega arith) (λ e. omega arith))))))))
   where
     keeps : (b : Bool) (x y : Refusal) → (readingRule x .0 ≡ 5 → ⊥) → (readingRule y .0 ≡ 5 → ⊥) → readingRule (b gives x or y) .0 ≡ 5 → ⊥

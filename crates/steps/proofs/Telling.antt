@@ -24,8 +24,7 @@ use Rattle.target.specs.Uri.{startsWith, hasQuery, queryOf}
 use Rattle.tuning.specs.Values.{valueOf}
 use Rattle.stream.specs.Arrays.{kept, isFit, areFit, isIn}
 use Rattle.stream.proofs.Fitting.{all-in, fit-of, read-ranged}
-use Rattle.aim.specs.Query.{codeFrom, codeOf, textOf}
-use Rattle.aim.specs.Aim.{queryIn, codeIn}
+use Rattle.aim.specs.Query.{codeFrom, partsOf, textIn, codeIn}
 use Rattle.refusals.specs.declared.Refusal.{Refusal}
 use Rattle.refusals.specs.declared.Refusal.the-variants.{Passed, Layout}
 use Rattle.reader.specs.Fields.{transportOf, portsIn, portFrom}
@@ -53,9 +52,9 @@ pub codes-length : (frontends : ℕ) (u : List ℕ) → length (codesIn frontend
 unfolding codesIn
 codes-length frontends u = refl
 
-pub code-at : (frontends a : ℕ) (u : List ℕ) → a < 13 → getD (codesIn frontends u) a 0 ≡ codeIn frontends a u
+pub code-at : (frontends a : ℕ) (u : List ℕ) → a < 13 → getD (codesIn frontends u) a 0 ≡ codeIn frontends a (partsOf u)
 unfolding codesIn
-code-at frontends a u h = counted (λ k. codeIn frontends k u) 0 13 a h ∙ ap (λ k. codeIn frontends k u) (omega arith)
+code-at frontends a u h = counted (λ k. codeIn frontends k (partsOf u)) 0 13 a h ∙ ap (λ k. codeIn frontends k (partsOf u)) (omega arith)
 
 module _ (frontends : ℕ) (s : List ℕ) (r : Request) (i : RequestIs frontends s r) (p : r .refusal ≡ Passed) where
   codes-told : length (r .codes) ≡ 13 → r .codes ≡ codesIn frontends (uriOf s)
@@ -63,12 +62,12 @@ module _ (frontends : ℕ) (s : List ℕ) (r : Request) (i : RequestIs frontends
       ext-getD 0 (r .codes) (codesIn frontends (uriOf s)) (e ∙ sym (codes-length frontends (uriOf s)))
       (λ a h. i .codes p a ∙ sym (code-at frontends a (uriOf s) (omega arith)))
 
-  query-told : ltb (r .query .start) (r .query .end) ≡ ltb 0 (length (queryIn (uriOf s)))
+  query-told : ltb (r .query .start) (r .query .end) ≡ ltb 0 (length (queryOf (uriOf s)))
   query-told =
-      let n : r .query .end ≡ r .query .start + length (queryIn (uriOf s)) = holds-length (i .query p) in
-      by-cases (ℕ-discrete (length (queryIn (uriOf s))) 0)
-      (λ z. rw (le-ltb (r .query .start) (r .query .end) (omega arith), le-ltb 0 (length (queryIn (uriOf s))) (omega arith)))
-      (λ z. rw (lt-ltb (r .query .start) (r .query .end) (omega arith), lt-ltb 0 (length (queryIn (uriOf s))) (omega arith)))
+      let n : r .query .end ≡ r .query .start + length (queryOf (uriOf s)) = holds-length (i .query p) in
+      by-cases (ℕ-discrete (length (queryOf (uriOf s))) 0)
+      (λ z. rw (le-ltb (r .query .start) (r .query .end) (omega arith), le-ltb 0 (length (queryOf (uriOf s))) (omega arith)))
+      (λ z. rw (lt-ltb (r .query .start) (r .query .end) (omega arith), lt-ltb 0 (length (queryOf (uriOf s))) (omega arith)))
 
   pub asked-told : length (r .codes) ≡ 13 → askedBy r ≡ askedOf frontends s
   asked-told e = rw (i .method p, ← i .stream p, codes-told e, query-told, i .session p, i .transport p)
@@ -85,9 +84,9 @@ module _ (frontends : ℕ) (s : List ℕ) (r : Request) (i : RequestIs frontends
 
 -- WHAT IS READ OF A TEXT IS IN RANGE
 -- a code is 0 or read of a text
-pub code-keeps : (P : ℕ → Type 0) (frontends a : ℕ) (u : List ℕ) → P 0 → ((xs : List ℕ) (c : ℕ) → valueOf frontends a xs ≡ Value c → P c) → P (codeIn frontends a u)
-unfolding codeOf
-code-keeps P frontends a u z h = cond-keeps P (hasQuery u) _ 0 (λ _. one (valueOf frontends a (textOf a (queryOf u))) (h (textOf a (queryOf u)))) (λ _. z)
+pub code-keeps : (P : ℕ → Type 0) (frontends a : ℕ) (u : List ℕ) → P 0 → ((xs : List ℕ) (c : ℕ) → valueOf frontends a xs ≡ Value c → P c) → P (codeIn frontends a (partsOf u))
+unfolding codeIn
+code-keeps P frontends a u z h = one (valueOf frontends a (textIn a (partsOf u))) (h (textIn a (partsOf u)))
   where
     one : (r : Read) → ((c : ℕ) → r ≡ Value c → P c) → P (codeFrom r)
     one (Value c) k = k c refl

@@ -6,9 +6,8 @@ use lib.Dec.{ltb}
 use lib.ListN.{length}
 use Rattle.lines.specs.Lines.{headerLines}
 use Rattle.lines.specs.Headers.{valuesOf, firstValue}
-use Rattle.target.specs.Uri.{streamNamed}
-use Rattle.aim.specs.Query.{codeFrom}
-use Rattle.aim.specs.Aim.{queryIn, codeIn, textIn}
+use Rattle.target.specs.Uri.{streamNamed, queryOf}
+use Rattle.aim.specs.Query.{partsOf, textIn, codeFrom, codeIn}
 use Rattle.aim.specs.declared.Method.{Method}
 use Rattle.reader.specs.Fields.{sessionOf, transportOf}
 use Rattle.reader.specs.Request.{methodOf, uriOf}
@@ -31,7 +30,7 @@ pub record Lists : Type 0 where
   pub delpids : List ℕ
 
 unfoldable pub codesIn : ℕ → List ℕ → List ℕ
-codesIn frontends u = map (λ attribute. codeIn frontends attribute u) (0 ∷ 1 ∷ 2 ∷ 3 ∷ 4 ∷ 5 ∷ 6 ∷ 7 ∷ 8 ∷ 9 ∷ 10 ∷ 11 ∷ 12 ∷ [])
+codesIn frontends u = map (λ attribute. codeIn frontends attribute (partsOf u)) (0 ∷ 1 ∷ 2 ∷ 3 ∷ 4 ∷ 5 ∷ 6 ∷ 7 ∷ 8 ∷ 9 ∷ 10 ∷ 11 ∷ 12 ∷ [])
 
 -- an empty query was refused at step 8
 abbrev pub askedOf : ℕ → List ℕ → Asked
@@ -40,10 +39,10 @@ askedOf frontends s =
       method = methodOf s;
       stream = codeFrom (streamNamed (uriOf s));
       codes = codesIn frontends (uriOf s);
-      query = ltb 0 (length (queryIn (uriOf s)));
+      query = ltb 0 (length (queryOf (uriOf s)));
       session = sessionOf (valuesOf 1 (headerLines s));
       transport = transportOf (firstValue (valuesOf 2 (headerLines s)));
     }
 
 abbrev pub listsOf : List ℕ → Lists
-listsOf s = record { pids = textIn 10 (uriOf s); addpids = textIn 11 (uriOf s); delpids = textIn 12 (uriOf s) }
+listsOf s = record { pids = textIn 10 (partsOf (uriOf s)); addpids = textIn 11 (partsOf (uriOf s)); delpids = textIn 12 (partsOf (uriOf s)) }

@@ -9,7 +9,7 @@ use lib.ListN.{getD}
 use Rattle.scan.specs.Lists.{_gives_or_, part}
 use Rattle.scan.specs.Found.{Holds}
 use Rattle.scan.specs.declared.Span.{Span}
-use Rattle.aim.specs.Query.{nowhere}
+use Rattle.aim.specs.Found.{nowhere}
 use Rattle.aim.specs.declared.Method.{Method}
 use Rattle.aim.specs.declared.Method.the-variants.{Options, Setup, Play, Teardown, Other}
 use Rattle.refusals.specs.declared.Refusal.{Refusal}
