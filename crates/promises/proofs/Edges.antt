@@ -26,7 +26,7 @@ use Rattle.reader.specs.declared.fields.Transport.the-variants.{Other, Port}
 use Rattle.journal.specs.Bytes.{encoded}
 use Rattle.journal.specs.declared.Record.{Record}
 use Rattle.stream.specs.Values.{areNone, areInRange, goTogether, merged}
-use Rattle.stream.specs.Pids.{numbersIn, replaced as listed, areTooMany, chosen, isChoice}
+use Rattle.stream.specs.Pids.{numbersIn, replaced as listed, chosen, isChoice}
 use Rattle.stream.specs.Streams.{noStream, areZero, isSound}
 use Rattle.stream.specs.Merging.{changed, mergeOf}
 use Rattle.stream.specs.declared.Stream.{Stream}
@@ -54,6 +54,7 @@ use Rattle.satbox.specs.Requests.{requested, answerOf, requestOutcome, repliedI
 use Rattle.serving.specs.declared.opening.Client.{Client}
 use Rattle.promises.proofs.Asks.{example, exampleAnswer, setupAt, setup, join, play, teardown, box, home, verdictOf, verdict, passes, ask, run, after}
 use Rattle.promises.proofs.EdgeLaws.{drawn-first, RefusedAs, ReadsAs, refused-alike, served-alike}
+use lib.Dec.{ltb}
 
 -- Named on a proof's `unfolding` line, these let meanings be worked out there: of reading, of lists of PIDs, of serving; and all of them
 unfoldable pub reading : ℕ
@@ -221,7 +222,7 @@ distinct-read : ReadsAs distinct distinctAsked distinctLists
 unfolding reading
 distinct-read = record { no-fe = refl; passed = refl; asked = refl; lists = refl }
 
-distinct-many : areTooMany (listed 3 (pidsAnd (text "32"))) ≡ true
+distinct-many : ltb 32 (length (listed 3 (pidsAnd (text "32")) .list)) ≡ true
 unfolding listing
 distinct-many = refl
 

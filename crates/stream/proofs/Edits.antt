@@ -9,8 +9,8 @@ use Rattle.digits.specs.declared.Read.{Read}
 use Rattle.digits.specs.declared.Read.the-variants.{Value, Nothing}
 use Rattle.digits.specs.declared.Zeros.the-variants.{Allowed}
 use Rattle.digits.proofs.Limits.{Is-read, number-most}
-use Rattle.stream.specs.Pids.{added, removed, readPid}
-use Rattle.stream.specs.Arrays.{There, Missing, Placed, Front, Held, once}
+use Rattle.stream.specs.Pids.{added, removed}
+use Rattle.stream.specs.Arrays.{readPid, There, Missing, Placed, Front, Held, once}
 use Rattle.stream.specs.declared.pids.Place.{Place}
 use Rattle.stream.specs.declared.pids.Place.the-variants.{At, Before}
 

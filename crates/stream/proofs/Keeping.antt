@@ -14,10 +14,10 @@ use Rattle.scan.proofs.Bools.{never, and-both, by-test, both}
 use Rattle.digits.specs.declared.Read.{Read}
 use Rattle.digits.specs.declared.Read.the-variants.{Value, Nothing}
 use Rattle.stream.specs.Values.{goTogether, merged}
-use Rattle.stream.specs.Pids.{added, removed, readPid, withNumber, numbersIn, obeyed, Choice, replaced, edited, chosen, areTooMany, choiceOf, isPadded, isChoice}
+use Rattle.stream.specs.Pids.{added, removed, withNumber, numbersIn, obeyed, Choice, replaced, edited, chosen, choiceOf, isPadded, isChoice}
+use Rattle.stream.specs.Arrays.{readPid, areTooMany, laidOut, areFit, isLow, rises, numbersRead, addedAll}
 use Rattle.stream.specs.Streams.{isSound}
-use Rattle.stream.specs.Merging.{chosenBy, changed, mergeOf}
-use Rattle.stream.specs.Arrays.{laidOut, areFit, isLow, rises, numbersRead, addedAll}
+use Rattle.stream.specs.Merging.{changed, mergeOf}
 use Rattle.stream.specs.declared.Values.{Values}
 use Rattle.stream.specs.declared.Stream.{Stream}
 use Rattle.stream.specs.declared.Change.{Change}
@@ -73,14 +73,15 @@ edited-fine edit f g code text {c} h = by (c .all) (eqb code 0)
     by false true = h
     by false false = list-fine (obeyed edit (numbersIn text) (c .list)) (f (numbersIn text) (c .list) (h .rising)) (g (numbersIn text) (c .list) (numbers-low text) (h .low))
 
-pub chosen-fine : (pids : ℕ) (pidsText : List ℕ) (del : ℕ) (delText : List ℕ) (add : ℕ) (addText : List ℕ) {c : Choice} → Fine c → Fine (chosen pids pidsText del delText add addText c)
+pub chosen-fine : (m : Stream) (codes pids delpids addpids : List ℕ) → Fine (choiceOf m) → Fine (chosen m codes pids delpids addpids)
 unfolding chosen
-chosen-fine pids pidsText del delText add addText {c} h = by (eqb pids 0)
+chosen-fine m codes pids delpids addpids h = by (eqb (getD codes 10 0) 0)
   where
-    by : (t : Bool) → Fine (cond t (edited added add addText (edited removed del delText c)) (replaced pids pidsText))
+    by : (t : Bool) → Fine (cond t (edited added (getD codes 11 0) addpids (edited removed (getD codes 12 0) delpids (choiceOf m))) (replaced (getD codes 10 0) pids))
     by true =
-        edited-fine added rises-added-all (all-added-all isLow) add addText (edited-fine removed rises-removed-all (λ ps l e. all-removed-all isLow ps l) del delText h)
-    by false = replaced-fine pids pidsText
+        edited-fine added rises-added-all (all-added-all isLow) (getD codes 11 0) addpids
+        (edited-fine removed rises-removed-all (λ ps l e. all-removed-all isLow ps l) (getD codes 12 0) delpids h)
+    by false = replaced-fine (getD codes 10 0) pids
 
 -- a stream's choice, there and back
 pub choice-fine : (m : Stream) → isChoice m ≡ true → Fine (choiceOf m)
@@ -139,7 +140,7 @@ module _ (m : Stream) (codes pids delpids addpids : List ℕ) where
   values = merged (m .values) codes
 
   abbrev choice : Choice
-  choice = chosenBy m codes pids delpids addpids
+  choice = chosen m codes pids delpids addpids
 
   passes : mergeOf m codes pids delpids addpids .outcome ≡ Merged → (not (goTogether values) ≡ false) × (areTooMany choice ≡ false)
   unfolding mergeOf
@@ -164,7 +165,7 @@ module _ (m : Stream) (codes pids delpids addpids : List ℕ) where
         together = not-false (goTogether values) (p .0);
         choice =
             fine-choice m values
-            (chosen-fine (getD codes 10 0) pids (getD codes 12 0) delpids (getD codes 11 0) addpids (choice-fine m (l .choice))) (p .1);
+            (chosen-fine m codes pids delpids addpids (choice-fine m (l .choice))) (p .1);
       }))
 
   pub merge-frontend : mergeOf m codes pids delpids addpids .stream .frontend ≡ m .frontend
@@ -188,7 +189,7 @@ no-values v = refl
 edited-none : (edit : ℕ → List ℕ → List ℕ) (text : List ℕ) (c : Choice) → edited edit 0 text c ≡ c
 edited-none edit text c = rw (or-true (c .all))
 
-no-pids : (m : Stream) (pids delpids addpids : List ℕ) → chosenBy m (replicate 13 0) pids delpids addpids ≡ choiceOf m
+no-pids : (m : Stream) (pids delpids addpids : List ℕ) → chosen m (replicate 13 0) pids delpids addpids ≡ choiceOf m
 unfolding chosen
 no-pids m pids delpids addpids = edited-none added addpids (edited removed 0 delpids (choiceOf m)) ∙ edited-none removed delpids (choiceOf m)
 

@@ -13,7 +13,7 @@ use Rattle.scan.proofs.Bools.{by-test, by-cases}
 use Rattle.stream.specs.Values.{merged, goTogether}
 use Rattle.stream.specs.Pids.{added, removed, numbersIn, obeyed, Choice, replaced, edited, chosen, choiceOf}
 use Rattle.stream.specs.Arrays.{withText, laidOut, addedAll, Chosen, Front, Held}
-use Rattle.stream.specs.Merging.{chosenBy, changed, mergeOf}
+use Rattle.stream.specs.Merging.{changed, mergeOf}
 use Rattle.stream.specs.declared.Values.{Values}
 use Rattle.stream.specs.declared.Stream.{Stream}
 use Rattle.stream.specs.declared.pids.Pids.{Pids}
@@ -69,11 +69,11 @@ module _ (m : Stream) (del : ℕ) (delpids : List ℕ) (add : ℕ) (addpids : Li
 -- which of the two
 module _ (m : Stream) (codes pids delpids addpids : List ℕ) {p : Pids} where
   pub chosen-edited : getD codes 10 0 ≡ 0 → Chosen (edited added (getD codes 11 0) addpids (edited removed (getD codes 12 0) delpids (choiceOf m))) p
-      → Chosen (chosenBy m codes pids delpids addpids) p
+      → Chosen (chosen m codes pids delpids addpids) p
   unfolding chosen
   chosen-edited e c = rw (eq-eqb (getD codes 10 0) 0 e) c
 
-  pub chosen-replaced : (getD codes 10 0 ≡ 0 → ⊥) → Chosen (replaced (getD codes 10 0) pids) p → Chosen (chosenBy m codes pids delpids addpids) p
+  pub chosen-replaced : (getD codes 10 0 ≡ 0 → ⊥) → Chosen (replaced (getD codes 10 0) pids) p → Chosen (chosen m codes pids delpids addpids) p
   unfolding chosen
   chosen-replaced e c = rw (ne-eqb (getD codes 10 0) 0 e) c
 
@@ -86,16 +86,16 @@ module _ (m : Stream) (codes pids delpids addpids : List ℕ) {v : Values} {g : 
   unfolding mergeOf
   merge-apart n = rw (combined, n)
 
-  module _ (y : not g ≡ false) {p : Pids} (c : Chosen (chosenBy m codes pids delpids addpids) p) where
+  module _ (y : not g ≡ false) {p : Pids} (c : Chosen (chosen m codes pids delpids addpids) p) where
     pub merge-over : 32 < p .count → record { stream = m; outcome = TooMany } ≡ mergeOf m codes pids delpids addpids
     unfolding mergeOf
     merge-over h =
-        rw (combined, y, lt-ltb 32 (length (chosenBy m codes pids delpids addpids .list)) (omega (arith, c .held .count)))
+        rw (combined, y, lt-ltb 32 (length (chosen m codes pids delpids addpids .list)) (omega (arith, c .held .count)))
 
     pub merge-done : {d : List ℕ} → p .count ≤ 32 → d ≡ laidOut (take (p .count) (p .list))
         → record { stream = record { pids = d; values = v; count = p .count; frontend = m .frontend; all = p .all }; outcome = Merged } ≡ mergeOf m codes pids delpids addpids
     unfolding mergeOf changed
     merge-done {d} h e =
-        let n : p .count ≡ length (chosenBy m codes pids delpids addpids .list) = omega (arith, c .held .count) in
-        let q : d ≡ laidOut (chosenBy m codes pids delpids addpids .list) = e ∙ ap laidOut (c .held .is h) in
-        rw (combined, y, le-ltb 32 (length (chosenBy m codes pids delpids addpids .list)) (omega arith), values, q, n, c .all)
+        let n : p .count ≡ length (chosen m codes pids delpids addpids .list) = omega (arith, c .held .count) in
+        let q : d ≡ laidOut (chosen m codes pids delpids addpids .list) = e ∙ ap laidOut (c .held .is h) in
+        rw (combined, y, le-ltb 32 (length (chosen m codes pids delpids addpids .list)) (omega arith), values, q, n, c .all)

@@ -14,8 +14,8 @@ use Rattle.scan.specs.Cut.{is}
 use Rattle.scan.proofs.Cuts.{cut-start, cut-turn, cut-end}
 use Rattle.digits.specs.declared.Read.{Read}
 use Rattle.digits.specs.declared.Read.the-variants.{Value, Nothing}
-use Rattle.stream.specs.Pids.{added, removed, readPid, withNumber, numbersIn, obeyed}
-use Rattle.stream.specs.Arrays.{withText, numbersRead, Front, Held, once}
+use Rattle.stream.specs.Pids.{added, removed, withNumber, numbersIn, obeyed}
+use Rattle.stream.specs.Arrays.{readPid, withText, numbersRead, Front, Held, once}
 use Rattle.stream.proofs.Edits.{front-same, held-front}
 
 -- the pieces before place p of the text have been obeyed, and b's first n PIDs are what they made of a's first `count`

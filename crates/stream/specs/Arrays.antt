@@ -4,17 +4,32 @@ use Prim.Native.Nat.{ℕ, suc, _-_, _≤_, _<_, min}
 use mathlib.Core.Path.{_≡_}
 use mathlib.Core.Bool.{Bool, true, false, cond, _&&_, _||_}
 use mathlib.Core.List.{List, [], _∷_, _++_, foldr}
-use lib.Dec.{eqb, leb}
+use lib.Dec.{eqb, leb, ltb}
 use lib.ListN.{length, take, drop, getD, replicate}
 use Rattle.scan.specs.Classes.{isBetween}
 use Rattle.scan.specs.Lists.{all}
+use Rattle.digits.specs.Reading.{readNumber}
 use Rattle.digits.specs.declared.Read.{Read}
 use Rattle.digits.specs.declared.Read.the-variants.{Value, Nothing}
+use Rattle.digits.specs.declared.Zeros.the-variants.{Allowed}
 use Rattle.stream.specs.Values.{isMissingOr}
-use Rattle.stream.specs.Pids.{highest, most, added, removed, readPid, withNumber, numbersIn, obeyed, Choice}
+use Rattle.stream.specs.Pids.{added, removed, withNumber, numbersIn, obeyed, Choice}
 use Rattle.stream.specs.declared.pids.Place.{Place}
 use Rattle.stream.specs.declared.pids.Place.the-variants.{At, Before}
 use Rattle.stream.specs.declared.pids.Pids.{Pids}
+
+-- the highest PID, how many a stream may have, and when those are too many
+abbrev pub highest : ℕ
+highest = 8191
+
+abbrev pub most : ℕ
+most = 32
+
+abbrev pub areTooMany : Choice → Bool
+areTooMany c = ltb most (length (c .list))
+
+abbrev pub readPid : List ℕ → Read
+readPid piece = readNumber Allowed 5 highest piece
 
 -- the first of some tests that holds says which
 infixr 50 _then_else_

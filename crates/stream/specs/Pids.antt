@@ -3,7 +3,7 @@ use Prim.Native.Nat.{ℕ, zero, suc}
 use mathlib.Core.Bool.{Bool, false, not, cond, _&&_, _||_}
 use mathlib.Core.List.{List, [], _∷_, foldr, foldl}
 use lib.Dec.{eqb, leb, ltb}
-use lib.ListN.{length, take}
+use lib.ListN.{getD, take}
 use Rattle.scan.specs.Lists.{all}
 use Rattle.scan.specs.Cut.{cut}
 use Rattle.digits.specs.Reading.{readNumber}
@@ -12,13 +12,6 @@ use Rattle.digits.specs.declared.Read.the-variants.{Value, Nothing}
 use Rattle.digits.specs.declared.Zeros.the-variants.{Allowed}
 use Rattle.stream.specs.Values.{isZero}
 use Rattle.stream.specs.declared.Stream.{Stream}
-
--- the highest PID, and how many a stream may have
-abbrev pub highest : ℕ
-highest = 8191
-
-abbrev pub most : ℕ
-most = 32
 
 -- an ascending list with one PID more; a PID that is there already adds nothing
 abbrev pub added : ℕ → List ℕ → List ℕ
@@ -31,15 +24,12 @@ removed p [] = []
 removed p (q ∷ l) = cond (ltb p q) (q ∷ l) (cond (eqb p q) l (q ∷ removed p l))
 
 -- "numbers 0 to 8191 joined by commas", in the order in which they stand; any other piece is passed over
-abbrev pub readPid : List ℕ → Read
-readPid piece = readNumber Allowed 5 highest piece
-
 abbrev pub withNumber : Read → List ℕ → List ℕ
 withNumber (Value p) l = p ∷ l
 withNumber Nothing l = l
 
 unfoldable pub numbersIn : List ℕ → List ℕ
-numbersIn text = foldr (λ piece l. withNumber (readPid piece) l) [] (cut 44 text)
+numbersIn text = foldr (λ piece l. withNumber (readNumber Allowed 5 8191 piece) l) [] (cut 44 text)
 
 -- PIDs added, or removed, one after the other
 abbrev pub obeyed : (ℕ → List ℕ → List ℕ) → List ℕ → List ℕ → List ℕ
@@ -58,24 +48,21 @@ replaced code text = record { all = eqb code 1; list = cond (eqb code 1 || eqb c
 abbrev pub edited : (ℕ → List ℕ → List ℕ) → ℕ → List ℕ → Choice → Choice
 edited edit code text c = cond (c .all || eqb code 0) c (record { all = false; list = obeyed edit (numbersIn text) (c .list) })
 
--- "delpids is applied before addpids". Neither stands beside pids, which replaces: such a query is refused before it is merged.
-unfoldable pub chosen : ℕ → List ℕ → ℕ → List ℕ → ℕ → List ℕ → Choice → Choice
-chosen pids pidsText del delText add addText c =
-    cond (eqb pids 0) (edited added add addText (edited removed del delText c)) (replaced pids pidsText)
-
--- "More than 32 PIDs after merging"
-abbrev pub areTooMany : Choice → Bool
-areTooMany c = ltb most (length (c .list))
-
 -- the PIDs that stand in a stream's place
 abbrev pub choiceOf : Stream → Choice
 choiceOf m = record { all = not (eqb (m .all) 0); list = take (m .count) (m .pids) }
+
+-- a query's PIDs, whose codes stand by the attribute's place. "delpids is applied before addpids"; neither stands beside pids, which replaces: step 8
+unfoldable pub chosen : Stream → List ℕ → List ℕ → List ℕ → List ℕ → Choice
+chosen m codes pids delpids addpids =
+    cond (eqb (getD codes 10 0) 0) (edited added (getD codes 11 0) addpids (edited removed (getD codes 12 0) delpids (choiceOf m)))
+    (replaced (getD codes 10 0) pids)
 
 -- a place's array from some place on: `count` PIDs, "0 to 8191", that ascend, none below n, and then zeros
 abbrev pub isPadded : ℕ → ℕ → List ℕ → Bool
 isPadded zero n l = all isZero l
 isPadded (suc count) n [] = false
-isPadded (suc count) n (p ∷ l) = leb n p && (leb p highest && isPadded count (suc p) l)
+isPadded (suc count) n (p ∷ l) = leb n p && (leb p 8191 && isPadded count (suc p) l)
 
 -- "PID lists ascending without repeats": as many as the array holds at most, and no list under "all"
 unfoldable pub isChoice : Stream → Bool

@@ -7,9 +7,8 @@ ghost use Prim.Native.Nat.{suc, _≤_, _<_, min};
 ghost use lib.ListN.{length, take, drop};
 ghost use Rattle.scan.specs.Lists.{all};
 ghost use Rattle.stream.specs.Values.{isZero};
-ghost use Rattle.stream.specs.Pids.{isPadded, added, removed, readPid, replaced, edited, choiceOf};
-ghost use Rattle.stream.specs.Arrays.{withText, laidOut, Chosen, Placed, Front, Held, once};
-ghost use Rattle.stream.specs.Merging.{chosenBy};
+ghost use Rattle.stream.specs.Pids.{isPadded, added, removed, replaced, edited, choiceOf, chosen};
+ghost use Rattle.stream.specs.Arrays.{readPid, withText, laidOut, Chosen, Placed, Front, Held, once};
 use crate::Stream;
 use digits::Read;
 use digits::Zeros;
@@ -277,7 +276,7 @@ pub(crate) fn choose(
     delpids: &[u8],
     addpids: &[u8],
 ) -> Pids
-    ensures { λ r. ⌜ Chosen (chosenBy m codes (now (pids .entry)) (now (delpids .entry)) (now (addpids .entry))) r ⌝ }
+    ensures { λ r. ⌜ Chosen (chosen m codes (now (pids .entry)) (now (delpids .entry)) (now (addpids .entry))) r ⌝ }
 {
     if codes[10] == 0 {
         return edit(m, codes[12], delpids, codes[11], addpids);
