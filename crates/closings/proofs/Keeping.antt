@@ -14,7 +14,8 @@ use Rattle.scan.specs.Classes.{isBetween}
 use Rattle.scan.proofs.Bools.{and-both, by-cases, Case, is, isnt, case, Same, same, other, sames, cond-keeps}
 use Rattle.stream.specs.Streams.{noStream, pastStream}
 use Rattle.stream.specs.declared.Stream.{Stream}
-use Rattle.table.specs.Table.{noSession, sessionAt, streamIn, withStream, isOn}
+use Rattle.table.specs.Table.{noSession, sessionAt, withStream, isOn}
+use Rattle.table.proofs.Ids.{streamIn}
 use Rattle.table.specs.Formed.{areSizes, wellFormed}
 use Rattle.table.specs.declared.Settings.{Settings}
 use Rattle.table.specs.declared.SatBox.{SatBox}

@@ -6,14 +6,13 @@ use native.Mathlib.Omega.{arith}
 use lib.Dec.{ltb, leb}
 use borrow.Author.Tests.{ltb-true, lt-leb}
 use Rattle.scan.proofs.Bools.{by-test}
-use Rattle.table.specs.Made.{settingsOf, madeOf}
+use Rattle.table.specs.Made.{settingsOf, madeOf, numberIn}
 use Rattle.table.specs.declared.Made.{Made}
 use Rattle.table.specs.declared.SatBox.{SatBox}
 use Rattle.table.specs.declared.Refusal.the-variants.{Table, Journal, Answer, Buffer, Frontend, Sizes}
 use Rattle.table.specs.declared.Outcome.{Outcome}
 use Rattle.table.specs.declared.Outcome.the-variants.{Done, Refused}
 use Rattle.satbox.specs.Calls.{ifDone}
-use Rattle.door.specs.Turns.{numberIn}
 
 made-few : (frontends size : ℕ) → madeOf (settingsOf (cond (ltb 65535 frontends) 0 frontends) size) ≡ madeOf (settingsOf frontends size)
 unfolding madeOf

@@ -1,17 +1,12 @@
 -- What C gets of a call: a refusal's number, 0 where the call was done, and what was counted. Assumes nothing.
 use Prim.Native.Nat.{ℕ}
 use Rattle.stream.specs.declared.Stream.{Stream}
-use Rattle.table.specs.Made.{refusalNumber}
+use Rattle.table.specs.Made.{refusalNumber, numberIn}
 use Rattle.table.specs.declared.Outcome.{Outcome}
-use Rattle.table.specs.declared.Outcome.the-variants.{Done, Refused}
 use Rattle.orders.specs.declared.Ordered.{Ordered as Order-outcome}
 use Rattle.orders.specs.declared.Ordered.the-variants.{On, Off, Refused as Unordered}
 use Rattle.door.specs.declared.turns.Reply.{Reply}
 use Rattle.door.specs.declared.turns.Ordered.{Ordered}
-
-abbrev pub numberIn : Outcome → ℕ
-numberIn Done = 0
-numberIn (Refused refusal) = refusalNumber refusal
 
 abbrev pub replyOf : Outcome → ℕ → Reply
 replyOf outcome count = record { refusal = numberIn outcome; count = count }

@@ -2,11 +2,11 @@
 ghost use mathlib.Core.Path.{_≡_};
 ghost use mathlib.Core.Bool.{cond};
 ghost use lib.Dec.{ltb};
-ghost use Rattle.table.specs.Made.{settingsOf, madeOf};
+ghost use Rattle.table.specs.Made.{settingsOf, madeOf, numberIn};
 ghost use Rattle.satbox.specs.Calls.{ifDone, ticked, tickedJournal, collected, collectedInto};
 ghost use Rattle.satbox.specs.Requests.{replied, repliedInto, repliedJournal};
 ghost use Rattle.orders.specs.Orders.{orderOf};
-ghost use Rattle.door.specs.Turns.{numberIn, replyOf, orderedAs};
+ghost use Rattle.door.specs.Turns.{replyOf, orderedAs};
 use stream::Stream;
 use table::Outcome;
 use table::SatBox;

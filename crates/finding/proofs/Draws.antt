@@ -9,11 +9,14 @@ use lib.Dec.{eqb, leb}
 use lib.ListN.{length}
 use borrow.Author.Tests.{eqb-true, eqb-false, leb-true, lt-leb, le-leb, eq-eqb, ne-eqb}
 use Rattle.scan.proofs.Bools.{never, Case, case, is, isnt, Same, sames, same, other, or-second, or-neither}
-use Rattle.table.specs.Counts.{bit, count, any}
+use Rattle.table.specs.Counts.{count, any}
+use Rattle.table.proofs.Counts.{bit, count-le, count-length}
 use Rattle.table.specs.Table.{noSession, hasNumber}
-use Rattle.finding.specs.Finding.{isTaken, nextNumber, drawnFrom, drawn}
+use Rattle.finding.specs.Finding.{firstFree, isTaken, nextNumber, drawn}
 use Rattle.table.specs.declared.Session.{Session}
-use Rattle.table.proofs.Counts.{count-le, count-length}
+
+abbrev pub drawnFrom : ℕ → List Session → ℕ → ℕ
+drawnFrom more l n = firstFree (isTaken l) nextNumber more n
 
 -- what passes q passes p, and an element that passes r passes p and not q: there are more of p
 count-lt : {A : Type 0} (p q r : A → Bool) → ((a : A) → q a ≡ true → p a ≡ true) → ((a : A) → r a ≡ true → bit (q a) < bit (p a)) → (l : List A) → any r l ≡ true → count q l < count p l

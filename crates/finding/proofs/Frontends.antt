@@ -8,7 +8,11 @@ use Rattle.scan.proofs.Bools.{Case, case, is, isnt}
 use Rattle.stream.specs.declared.Stream.{Stream}
 use Rattle.table.specs.Counts.{isAmong}
 use Rattle.table.specs.Formed.{frontendsOf}
-use Rattle.finding.specs.Finding.{isHeld, lowestAfter, lowestFrontend}
+use Rattle.finding.specs.Finding.{firstFree, isHeld, lowestFrontend}
+
+-- the lowest of the `more` frontends after n that is not held; the one after them where all are
+abbrev lowestAfter : ℕ → ℕ → List Stream → ℕ
+lowestAfter more n ms = firstFree (λ f. isHeld f ms) suc more (suc n)
 
 -- the frontends below f are among those held, whichever streams hold them
 pub record Ranging (held : List ℕ) (last f : ℕ) : Type 0 where

@@ -26,14 +26,14 @@ lowestId ms = suc (first isDead ms)
 abbrev pub isHeld : ℕ → List Stream → Bool
 isHeld f ms = isAmong f (frontendsOf ms)
 
--- the lowest of the `more` frontends after n that is not held; the one after them where all are
-abbrev pub lowestAfter : ℕ → ℕ → List Stream → ℕ
-lowestAfter zero n ms = suc n
-lowestAfter (suc more) n ms = cond (isHeld (suc n) ms) (lowestAfter more (suc n) ms) (suc n)
+-- the first number from n on, going by `next`, that is not taken; the one after `more` of them where all these are
+abbrev pub firstFree : (ℕ → Bool) → (ℕ → ℕ) → ℕ → ℕ → ℕ
+firstFree taken next zero n = n
+firstFree taken next (suc more) n = cond (taken n) (firstFree taken next more (next n)) n
 
 -- "the lowest free frontend" of F; F + 1 where none is free
 unfoldable pub lowestFrontend : ℕ → List Stream → ℕ
-lowestFrontend frontends ms = lowestAfter frontends 0 ms
+lowestFrontend frontends ms = firstFree (λ f. isHeld f ms) suc frontends 1
 
 -- "the first non-zero number not open": 0 and the open numbers are taken
 abbrev pub isTaken : List Session → ℕ → Bool
@@ -43,11 +43,6 @@ isTaken l n = eqb n 0 || any (hasNumber n) l
 abbrev pub nextNumber : ℕ → ℕ
 nextNumber n = (n + 1) % 4294967296
 
--- the first of so many numbers from n on that is not taken
-abbrev pub drawnFrom : ℕ → List Session → ℕ → ℕ
-drawnFrom zero l n = n
-drawnFrom (suc more) l n = cond (isTaken l n) (drawnFrom more l (nextNumber n)) n
-
 -- "counting up from the draw": 32 sessions and the 0 can take 33 numbers, so that one of 34 is not taken
 unfoldable pub drawn : List Session → ℕ → ℕ
-drawn l draw = drawnFrom 34 l draw
+drawn l draw = firstFree (isTaken l) nextNumber 34 draw

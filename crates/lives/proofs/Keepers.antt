@@ -12,7 +12,8 @@ use Rattle.journal.specs.declared.Record.{Record}
 use Rattle.stream.specs.Streams.{pastStream}
 use Rattle.stream.specs.declared.Stream.{Stream}
 use Rattle.table.specs.Counts.{any, count}
-use Rattle.table.specs.Table.{noSession, hasNumber, streamIn, withStream, isOn, owns}
+use Rattle.table.specs.Table.{noSession, hasNumber, withStream, isOn, owns}
+use Rattle.table.proofs.Ids.{streamIn}
 use Rattle.table.specs.declared.Session.{Session}
 use Rattle.table.proofs.Counts.{bit-no, bit-yes, count-set, count-zero-at, none-count, getD-set-alike}
 use Rattle.promises.proofs.Serving.{Alike}

@@ -21,7 +21,7 @@ use Rattle.table.specs.Counts.{any, count}
 use Rattle.table.specs.Table.{isOpen, openCount, sessionAt, isOn, owns}
 use Rattle.table.specs.Formed.{wellFormed}
 use Rattle.finding.specs.Finding.{isHeld}
-use Rattle.table.specs.Made.{fresh}
+use Rattle.table.specs.Made.{fresh, numberIn}
 use Rattle.table.specs.declared.Session.{Session}
 use Rattle.table.specs.declared.Settings.{Settings}
 use Rattle.table.specs.declared.SatBox.{SatBox}
@@ -34,7 +34,7 @@ use Rattle.closings.specs.Closing.{isExpired, atClock, sweeping}
 use Rattle.satbox.specs.Requests.{requested, replied}
 use Rattle.closings.proofs.DoesLaws.{bytes-append}
 use Rattle.closings.proofs.Keeping.{whole-formed}
-use Rattle.lives.specs.Calls.{Lent, Call, request, order, refusedBy, lacksJournal, isCall, Life, live, run, recordsOf, Lives, lifeAfter}
+use Rattle.lives.specs.Calls.{Lent, Call, request, order, lacksJournal, isCall, Life, live, run, recordsOf, Lives, lifeAfter}
 use Rattle.lives.specs.Closed.{Closed, isClosingOf, isTimeOut, Fares, placeNamedBy, KeepsAlive, Sweeps, Stays, TearsDown, Ends, saysClosed, saysOpened, unnumbered, sweepClosings, teardownClosings, PassesElse}
 use Rattle.lives.specs.Audit.{letGo, isHeldBy, audited, holds, Quiet, Notes, Leads, LetGo}
 use Rattle.lives.proofs.Journals.{counts-at, counts-next}
@@ -63,12 +63,12 @@ module _ (settings : Settings) (j : List ℕ) (cs : List Call) where
     pub well-formed : wellFormed (x .satbox) ≡ true
     well-formed = whole-formed (x .satbox) (after-good h .whole)
 
-    -- so that no call is refused with 1, whatever it is called with (`live`, `refusedBy`: document 01's numbers),
-    pub never-refused-by-1 : (c : Call) → refusedBy (live c x .outcome) ≡ 1 → ⊥
+    -- so that no call is refused with 1, whatever it is called with (`live`, `numberIn`: document 01's numbers),
+    pub never-refused-by-1 : (c : Call) → numberIn (live c x .outcome) ≡ 1 → ⊥
     never-refused-by-1 c = call-gated x well-formed c .0
 
     -- and with 2 exactly if it is lent a journal of another length (`lacksJournal`)
-    pub refused-by-2-for-length : (c : Call) → (refusedBy (live c x .outcome) ≡ 2) ↔ (lacksJournal (settings .size) c (x .journal) ≡ true)
+    pub refused-by-2-for-length : (c : Call) → (numberIn (live c x .outcome) ≡ 2) ↔ (lacksJournal (settings .size) c (x .journal) ≡ true)
     refused-by-2-for-length c =
         rw (sized (after-good h)) at (call-gated x well-formed c .1)
 

@@ -22,11 +22,12 @@ use Rattle.orders.specs.Orders.{isFed, playsAsOwner, orderAt, orderFor, orderOf
 use Rattle.orders.specs.declared.Order.{Order}
 use Rattle.satbox.specs.Calls.{_else_andThen_, isJournal, ticked, collected}
 use Rattle.satbox.specs.Requests.{replied}
-use Rattle.lives.specs.Calls.{lent, Call, request, tick, collect, order, orderOutcome, refusedBy, lacksJournal, Life, live}
+use Rattle.lives.specs.Calls.{lent, Call, request, tick, collect, order, orderOutcome, lacksJournal, Life, live}
+use Rattle.table.specs.Made.{numberIn}
 
 -- what stands behind the tests of 1 and 2 refuses by neither
 abbrev Past : Outcome → Type 0
-Past o = (refusedBy o ≡ 1 → ⊥) × (refusedBy o ≡ 2 → ⊥)
+Past o = (numberIn o ≡ 1 → ⊥) × (numberIn o ≡ 2 → ⊥)
 
 past-done : Past Done
 past-done = (λ e. omega arith, λ e. omega arith)
@@ -37,7 +38,7 @@ last-test false r h = h
 
 -- on a well-formed table, with a journal that is of length C or not
 abbrev Gated : Bool → Outcome → Type 0
-Gated lacks o = (refusedBy o ≡ 1 → ⊥) × ((refusedBy o ≡ 2) ↔ (lacks ≡ true))
+Gated lacks o = (numberIn o ≡ 1 → ⊥) × ((numberIn o ≡ 2) ↔ (lacks ≡ true))
 
 gated : (formed journal : Bool) (o : Outcome) → formed ≡ true → Past o → Gated (not journal) (formed else Table andThen journal else Journal andThen o)
 gated false journal o f h = never f refl

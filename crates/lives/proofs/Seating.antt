@@ -14,7 +14,8 @@ use Rattle.journal.specs.declared.Record.{Record}
 use Rattle.stream.specs.Streams.{pastStream}
 use Rattle.stream.specs.declared.Stream.{Stream}
 use Rattle.table.specs.Counts.{any, count}
-use Rattle.table.specs.Table.{noSession, isFree, sessionAt, streamIn, streamOf, isDead, isOn}
+use Rattle.table.specs.Table.{noSession, isFree, sessionAt, streamOf, isDead, isOn}
+use Rattle.table.proofs.Ids.{streamIn}
 use Rattle.finding.specs.Finding.{lowestPlace, lowestId}
 use Rattle.table.specs.declared.Session.{Session}
 use Rattle.table.specs.declared.SatBox.{SatBox}

@@ -7,7 +7,7 @@ use lib.Dec.{eqb, ltb}
 use lib.ListN.{length, take}
 use Rattle.scan.specs.Lists.{all}
 use Rattle.journal.specs.declared.Record.{Record}
-use Rattle.table.specs.Made.{refusalNumber, fresh}
+use Rattle.table.specs.Made.{fresh}
 use Rattle.table.specs.declared.Settings.{Settings}
 use Rattle.table.specs.declared.SatBox.{SatBox}
 use Rattle.table.specs.declared.Outcome.{Outcome}
@@ -47,11 +47,6 @@ abbrev pub orderOutcome : Ordered → Outcome
 orderOutcome On = Done
 orderOutcome Off = Done
 orderOutcome (Unordered r) = Refused r
-
--- document 01's number of what refused it; 0 where it was done
-abbrev pub refusedBy : Outcome → ℕ
-refusedBy Done = 0
-refusedBy (Refused r) = refusalNumber r
 
 -- the journal that a call is lent has not length C; a frontend order is lent none
 abbrev pub lacksJournal : ℕ → Call → List ℕ → Bool

@@ -33,12 +33,12 @@ use Rattle.stream.specs.declared.Stream.{Stream}
 use Rattle.table.specs.Counts.{any}
 use Rattle.table.specs.Table.{noSession, hasNumber, isOpen, openCount}
 use Rattle.table.specs.Formed.{isSeated, isBlank, wellFormed}
-use Rattle.finding.specs.Finding.{drawnFrom, lowestFrontend, drawn}
+use Rattle.finding.specs.Finding.{lowestFrontend, drawn}
+use Rattle.finding.proofs.Draws.{drawnFrom, drawn-new, drawn-nonzero}
 use Rattle.table.specs.Made.{settingsOf}
 use Rattle.table.specs.declared.Session.{Session}
 use Rattle.table.specs.declared.SatBox.{SatBox}
 use Rattle.table.specs.declared.Outcome.the-variants.{Done}
-use Rattle.finding.proofs.Draws.{drawn-new, drawn-nonzero}
 use Rattle.answer.specs.Lines.{reasonOf}
 use Rattle.steps.specs.Asked.{Asked, Lists, codesIn}
 use Rattle.steps.specs.Sights.{sightOf}

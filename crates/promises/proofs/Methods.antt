@@ -19,7 +19,8 @@ use Rattle.stream.specs.Streams.{noStream, pastStream, blank}
 use Rattle.stream.specs.Merging.{mergeOf}
 use Rattle.stream.specs.declared.Stream.{Stream}
 use Rattle.stream.specs.declared.Change.{Change}
-use Rattle.table.specs.Table.{noSession, sessionAt, streamIn, streamOf, withStream, isDead, isOn}
+use Rattle.table.specs.Table.{noSession, sessionAt, streamOf, withStream, isDead, isOn}
+use Rattle.table.proofs.Ids.{streamIn}
 use Rattle.finding.specs.Finding.{lowestPlace, lowestId, drawn}
 use Rattle.table.specs.declared.Session.{Session}
 use Rattle.table.specs.declared.SatBox.{SatBox}

@@ -1,19 +1,14 @@
 -- Counting in a list, and numbers that occur once. Assumes nothing.
 use Prim.Native.Nat.{ℕ, _+_}
-use mathlib.Core.Bool.{Bool, true, false, not, _&&_, _||_}
+use mathlib.Core.Bool.{Bool, true, false, not, cond, _&&_, _||_}
 use mathlib.Core.List.{List, [], _∷_}
 use lib.Dec.{eqb}
-
--- 1 for true
-abbrev pub bit : Bool → ℕ
-bit true = 1
-bit false = 0
 
 module _ {A : Type 0} (p : A → Bool) where
   -- how many elements pass the test
   abbrev pub count : List A → ℕ
   count [] = 0
-  count (x ∷ xs) = bit (p x) + count xs
+  count (x ∷ xs) = cond (p x) 1 0 + count xs
 
   -- some element passes the test
   abbrev pub any : List A → Bool

@@ -9,6 +9,7 @@ use Rattle.table.specs.declared.Settings.{Settings}
 use Rattle.table.specs.declared.SatBox.{SatBox}
 use Rattle.table.specs.declared.Refusal.{Refusal}
 use Rattle.table.specs.declared.Refusal.the-variants.{Table, Journal, Answer, Buffer, Frontend, Sizes}
+use Rattle.table.specs.declared.Outcome.{Outcome}
 use Rattle.table.specs.declared.Outcome.the-variants.{Done, Refused}
 use Rattle.table.specs.declared.Made.{Made}
 
@@ -20,6 +21,11 @@ refusalNumber Answer = 3
 refusalNumber Buffer = 4
 refusalNumber Frontend = 5
 refusalNumber Sizes = 6
+
+-- and what a call is refused with, 0 where it was done
+abbrev pub numberIn : Outcome → ℕ
+numberIn Done = 0
+numberIn (Refused refusal) = refusalNumber refusal
 
 -- what is fixed when a box is made: F and C
 abbrev pub settingsOf : ℕ → ℕ → Settings

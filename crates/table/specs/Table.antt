@@ -31,11 +31,8 @@ abbrev pub sessionAt : SatBox → ℕ → Session
 sessionAt t i = getD (t .sessions) i noSession
 
 -- the stream of an ID; IDs count from 1, and there is none of 0
-abbrev pub streamIn : List Stream → ℕ → Stream
-streamIn ms id = getD (pastStream ∷ ms) id pastStream
-
 abbrev pub streamOf : SatBox → ℕ → Stream
-streamOf t id = streamIn (t .streams) id
+streamOf t id = getD (pastStream ∷ t .streams) id pastStream
 
 -- the streams with another one of an ID
 abbrev pub withStream : ℕ → Stream → List Stream → List Stream

@@ -1,8 +1,7 @@
 -- `door::turns::make` meets its contract. Assumes nothing.
 use mathlib.Core.Path.{sym, _∙_, ap}
 use borrow.Author.Needs.{needs}
-use Rattle.table.specs.Made.{settingsOf, madeOf}
-use Rattle.door.specs.Turns.{numberIn}
+use Rattle.table.specs.Made.{settingsOf, madeOf, numberIn}
 use Rattle.door.proofs.Sizes.{few-made, done-is, refused-is}
 use Rattle.door.proofs.turns.make.Statement.{statement}
 use Rattle.door.proofs.turns.make.Tie as tie

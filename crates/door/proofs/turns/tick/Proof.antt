@@ -1,9 +1,9 @@
 -- `door::turns::tick` meets its contract. Assumes nothing.
 use mathlib.Core.Path.{_∙_, ap}
 use borrow.Author.Needs.{needs}
-use Rattle.door.specs.Turns.{numberIn}
 use Rattle.door.proofs.turns.tick.Statement.{statement}
 use Rattle.door.proofs.turns.tick.Tie as tie
+use Rattle.table.specs.Made.{numberIn}
 
 returns : tie.Need-returns
 returns c =
