@@ -23,9 +23,9 @@ use Rattle.table.proofs.Rules.{Seats, Rows, AreProper, WellFormed, formed, form
 use Rattle.table.proofs.Changes.{clear, seated-live, seats-freed, seats-emptied, seated-id, rows-freed, by-id, proper-set, proper-cleared, proper-later, none-proper}
 use Rattle.closings.specs.Did.{Did, nothing, then, restreamed, reseated, noting}
 use Rattle.closings.specs.Does.{Roomy, Closable}
-use Rattle.closings.specs.Closing.{closeOne, closeOn, cascade, free, closing, isExpired, sweepAt, swept, atClock}
+use Rattle.closings.specs.Closing.{closeOne, closeOn, cascade, closing, isExpired, sweepAt, swept, atClock}
+use Rattle.closings.proofs.Closings.{free, closeOne-fine, closing-fine, closable}
 use Rattle.closings.proofs.DoesLaws.{Fine}
-use Rattle.closings.proofs.Closings.{closeOne-fine, closing-fine, closable}
 use Rattle.closings.proofs.Runs.{upto-keeps, upto-map}
 
 -- a well-formed table with all its places, as every table of the code has them

@@ -14,8 +14,8 @@ use Rattle.table.specs.declared.SatBox.{SatBox}
 use Rattle.table.proofs.Counts.{bit-no, count-set-le}
 use Rattle.closings.specs.Did.{Did, nothing, then, reseated, noting}
 use Rattle.closings.specs.Does.{Roomy, Closable}
-use Rattle.closings.specs.Closing.{closeOne, closeOn, cascade, free, closing, isExpired, sweepAt, swept, atClock, sweeping}
-use Rattle.closings.proofs.Closings.{closable, closeOne-fine}
+use Rattle.closings.specs.Closing.{closeOne, closeOn, cascade, closing, isExpired, sweepAt, swept, atClock, sweeping}
+use Rattle.closings.proofs.Closings.{free, closable, closeOne-fine}
 use Rattle.closings.proofs.Keeping.{Whole, whole-roomy, sweepAt-whole, clock-whole}
 use Rattle.closings.proofs.Runs.{upto-holds}
 use Rattle.lives.specs.Audit.{Agree, clocked, restream, closes, Leads, begun, quiet, noted}

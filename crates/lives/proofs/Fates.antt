@@ -18,8 +18,8 @@ use Rattle.table.specs.declared.SatBox.{SatBox}
 use Rattle.table.proofs.Counts.{getD-set-here, count-zero-at, count-cleared-none}
 use Rattle.closings.specs.Did.{Did, nothing, then, upto, restreamed, reseated, noting}
 use Rattle.closings.specs.Does.{Roomy, Closable}
-use Rattle.closings.specs.Closing.{closeOne, closeOn, cascade, free, closing, isExpired, sweepAt}
-use Rattle.closings.proofs.Closings.{closable, closeOne-fine, closeOn-fine}
+use Rattle.closings.specs.Closing.{closeOne, closeOn, cascade, closing, isExpired, sweepAt}
+use Rattle.closings.proofs.Closings.{free, closable, closeOne-fine, closeOn-fine}
 use Rattle.closings.proofs.Keeping.{Whole, whole-roomy, sweepAt-whole, cascade-sessions}
 use Rattle.closings.proofs.Runs.{upto-holds}
 use Rattle.promises.proofs.Methods.{stream-other}

@@ -17,7 +17,8 @@ use Rattle.table.specs.declared.SatBox.{SatBox}
 use Rattle.table.proofs.Counts.{getD-set-all}
 use Rattle.closings.specs.Did.{Did, nothing, then, restreamed, reseated, noting}
 use Rattle.closings.specs.Does.{Closable}
-use Rattle.closings.specs.Closing.{closeOne, free, closing, sweeping, atClock}
+use Rattle.closings.specs.Closing.{closeOne, closing, sweeping, atClock}
+use Rattle.closings.proofs.Closings.{free}
 use Rattle.serving.specs.Opening.{guest, seatingAs as seated, canJoin, joining, canOpen, opening}
 use Rattle.serving.specs.Serving.{withSession, answered}
 use Rattle.satbox.specs.Requests.{requested}

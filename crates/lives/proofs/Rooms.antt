@@ -21,7 +21,7 @@ use Rattle.steps.specs.Steps.{isSetup, namesDead}
 use Rattle.steps.specs.declared.cases.Case.{Case}
 use Rattle.steps.specs.declared.cases.Case.the-variants.{Passed, Full}
 use Rattle.serving.specs.Opening.{hasRoom}
-use Rattle.serving.specs.Serving.{canSeat, changeCase, caseOf, Serving, served, clientOf, answered}
+use Rattle.serving.specs.Serving.{canSeat, caseOf, Serving, served, clientOf, answered}
 use Rattle.serving.specs.declared.opening.Client.{Client}
 use Rattle.serving.proofs.Passing.{untested}
 use Rattle.satbox.proofs.RequestLaws.{grant-passes}
@@ -52,8 +52,8 @@ module _ (t : SatBox) (a : Asked) (l : Lists) (p : PassesElse t a l) where
       by (other z) = rw (ne-eqb (sightOf t a .stream) 0 z, p .place, live z)
 
   case-is : caseOf t a l ≡ (not (hasRoom t) gives Full or Passed)
-  unfolding caseOf changeCase
-  case-is = rw (p .seen, p .combination, p .pids, p .opening, seat-is-room)
+  unfolding caseOf
+  case-is = rw (p .seen, p .query, p .opening, seat-is-room)
 
   module _ (client : Client) where
     pub full-case : hasRoom t ≡ false → served t a l client .case ≡ Full

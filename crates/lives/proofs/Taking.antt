@@ -21,7 +21,8 @@ use Rattle.table.proofs.Counts.{bit-yes, bit-no, count-set, count-zero-at, getD
 use Rattle.table.proofs.Changes.{opened, seated-live}
 use Rattle.closings.specs.Did.{Did, nothing, then, upto, reseated, noting}
 use Rattle.closings.specs.Does.{Closable}
-use Rattle.closings.specs.Closing.{closeOne, closeOn, cascade, free, closing}
+use Rattle.closings.specs.Closing.{closeOne, closeOn, cascade, closing}
+use Rattle.closings.proofs.Closings.{free}
 use Rattle.closings.proofs.Keeping.{Whole, owner-sessions, owner-streams}
 use Rattle.lives.specs.Closed.{takes, closingOf, unnumbered, inOrder, closingsAt}
 use Rattle.promises.proofs.Methods.{stream-other, getD-clear}

@@ -23,7 +23,7 @@ use Rattle.steps.specs.declared.cases.Case.the-variants.{Passed}
 use Rattle.closings.specs.Did.{recordOf}
 use Rattle.closings.specs.Closing.{isExpired, sweeping}
 use Rattle.serving.specs.Opening.{hasPlace, hasFrontend}
-use Rattle.serving.specs.Serving.{feedOf, merging, merges, isClash, isTooMany, isOpening}
+use Rattle.serving.specs.Serving.{feedOf, merging, merges, mergeCase, isOpening}
 use Rattle.satbox.specs.Requests.{requested}
 use Rattle.lives.specs.Calls.{Lent, Call, request, tick}
 
@@ -123,7 +123,6 @@ pub data Ends (t : SatBox) (i : ℕ) : Call → Type 0 where
 pub record PassesElse (t : SatBox) (a : Asked) (l : Lists) : Type 0 where
   pub opening : isOpening (sightOf t a) ≡ true
   pub seen : tableCase (sightOf t a) ≡ Passed
-  pub combination : merges (sightOf t a) && isClash (merging t a l .outcome) ≡ false
-  pub pids : merges (sightOf t a) && isTooMany (merging t a l .outcome) ≡ false
+  pub query : merges (sightOf t a) && not (isPassed (mergeCase (merging t a l .outcome))) ≡ false
   pub place : hasPlace t ≡ true
   pub frontend : sightOf t a .stream ≡ 0 → hasFrontend (feedOf t (sightOf t a .fe)) t ≡ true

@@ -49,7 +49,7 @@ use Rattle.steps.specs.declared.cases.Case.the-variants.{Reading, Transport, To
 use Rattle.closings.specs.Did.{nothing, upto, restreamed, reseated, noting, bytesOf}
 use Rattle.closings.specs.Closing.{isExpired, closeOne, closeOn, cascade, closing, sweepAt, swept, atClock, sweeping}
 use Rattle.serving.specs.Opening.{seatingAs, joining, opening}
-use Rattle.serving.specs.Serving.{merging, changeCase, caseOf, withSession, served, answered}
+use Rattle.serving.specs.Serving.{merging, caseOf, withSession, served, answered}
 use Rattle.satbox.specs.Requests.{requested, answerOf, requestOutcome, repliedInto, repliedJournal}
 use Rattle.serving.specs.declared.opening.Client.{Client}
 use Rattle.promises.proofs.Asks.{example, exampleAnswer, setupAt, setup, join, play, teardown, box, home, verdictOf, verdict, passes, ask, run, after}
@@ -66,7 +66,7 @@ unfolding listed numbersIn readNumber
 listing = 0
 
 unfoldable pub serving : ℕ
-unfolding requested answered served caseOf changeCase merging withSession joining opening seatingAs closeOne closeOn cascade closing sweepAt swept atClock upto restreamed reseated noting tableCase lacksSession namesDead isOutOfState isAnothers lacksPort sightOf drawn lowestFrontend mergeOf changed chosen goTogether merged
+unfolding requested answered served caseOf merging withSession joining opening seatingAs closeOne closeOn cascade closing sweepAt swept atClock upto restreamed reseated noting tableCase lacksSession namesDead isOutOfState isAnothers lacksPort sightOf drawn lowestFrontend mergeOf changed chosen goTogether merged
 serving = 0
 
 unfoldable pub meanings : ℕ

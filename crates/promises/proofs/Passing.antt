@@ -14,29 +14,38 @@ use Rattle.steps.specs.Sights.{sightOf}
 use Rattle.steps.specs.Cases.{isPassed}
 use Rattle.steps.specs.Steps.{isSetup, isNamed, lacksPort, tableCase}
 use Rattle.steps.specs.declared.Sight.{Sight}
+use Rattle.steps.specs.declared.cases.Case.{Case as Verdict}
 use Rattle.steps.specs.declared.cases.Case.the-variants.{Passed, Combination, TooManyPids, Full}
 use Rattle.steps.proofs.ReplyLaws.{unread-passed, table-unread}
 use Rattle.closings.specs.Does.{Closable}
 use Rattle.serving.specs.Opening.{canJoin, canOpen}
-use Rattle.serving.specs.Serving.{feedOf, merging, merges, isClash, isTooMany, isOpening, canSeat, changeCase, caseOf, Serving, grant, denied, served}
+use Rattle.serving.specs.Serving.{feedOf, merging, merges, mergeCase, isOpening, canSeat, caseOf, Serving, grant, denied, served}
+use Rattle.serving.specs.Turns.{changeCase}
 use Rattle.serving.specs.declared.opening.Client.{Client}
 use Rattle.closings.proofs.Keeping.{Whole}
 use Rattle.serving.proofs.Passing.{chain, Untested, untested, named-needed, named-closable}
 use Rattle.satbox.proofs.RequestLaws.{case-unread}
+use Rattle.scan.specs.Lists.{_gives_or_}
 
 -- STEPS 16 TO 18: none of their tests holds
 pub record Changing (t : SatBox) (a : Asked) (l : Lists) : Type 0 where
-  pub clash : merges (sightOf t a) && isClash (merging t a l .outcome) ≡ false
-  pub many : merges (sightOf t a) && isTooMany (merging t a l .outcome) ≡ false
+  pub query : merges (sightOf t a) && not (isPassed (mergeCase (merging t a l .outcome))) ≡ false
   pub seat : isOpening (sightOf t a) && not (canSeat t (sightOf t a)) ≡ false
 
+-- a case that is given only where it does not pass
+chain-of : (m : Bool) (c d : Verdict) → ((m && not (isPassed c)) gives c or d) ≡ Passed → (m && not (isPassed c) ≡ false) × (d ≡ Passed)
+chain-of false c d e = (refl, e)
+chain-of true c d e = by (case (isPassed c))
+  where
+    by : Case (isPassed c) → (not (isPassed c) ≡ false) × (d ≡ Passed)
+    by (is y) = (rw y, rw y at e)
+    by (isnt n) = never (ap isPassed (rw n at e)) n
+
 changing : (t : SatBox) (a : Asked) (l : Lists) → changeCase t a l ≡ Passed → Changing t a l
-unfolding changeCase
 changing t a l e =
-    let c = chain (merges (sightOf t a) && isClash (merging t a l .outcome)) Combination _ refl e in
-    let m = chain (merges (sightOf t a) && isTooMany (merging t a l .outcome)) TooManyPids _ refl (c .1) in
+    let m = chain-of (merges (sightOf t a)) (mergeCase (merging t a l .outcome)) _ e in
     let s = chain (isOpening (sightOf t a) && not (canSeat t (sightOf t a))) Full Passed refl (m .1) in
-    record { clash = c .0; many = m .0; seat = s .0 }
+    record { query = m .0; seat = s .0 }
 
 -- ALL OF THEM
 through : (t : SatBox) (a : Asked) (l : Lists) → caseOf t a l ≡ Passed → Untested (sightOf t a) × Changing t a l
@@ -76,15 +85,14 @@ abbrev pub feed : SatBox → Asked → ℕ
 feed t a = feedOf t (getD (a .codes) 1 0)
 
 module _ (t : SatBox) (a : Asked) (l : Lists) (p : Changing t a l) where
-  merged-only : (o : Outcome) → isClash o ≡ false → isTooMany o ≡ false → o ≡ Merged
-  merged-only Merged c m = refl
-  merged-only Clash c m = never refl c
-  merged-only TooMany c m = never refl m
+  merged-only : (o : Outcome) → not (isPassed (mergeCase o)) ≡ false → o ≡ Merged
+  merged-only Merged c = refl
+  merged-only Clash c = never refl c
+  merged-only TooMany c = never refl c
 
   -- 16 and 17: a query that is merged goes through
   pub through-merged : merges (sightOf t a) ≡ true → merging t a l .outcome ≡ Merged
-  through-merged e =
-      merged-only (merging t a l .outcome) (and-other (merges (sightOf t a)) _ (p .clash) e) (and-other (merges (sightOf t a)) _ (p .many) e)
+  through-merged e = merged-only (merging t a l .outcome) (and-other (merges (sightOf t a)) _ (p .query) e)
 
   -- 18: an opening has all that it takes
   through-seat : isOpening (sightOf t a) ≡ true → canSeat t (sightOf t a) ≡ true

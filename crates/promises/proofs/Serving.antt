@@ -30,7 +30,8 @@ use Rattle.steps.specs.Sights.{portOf, sightOf}
 use Rattle.steps.specs.Steps.{isSetup, looksUp, isNamed}
 use Rattle.steps.specs.Cases.{isPassed}
 use Rattle.closings.specs.Did.{Did, nothing, restreamed}
-use Rattle.serving.specs.Serving.{merging, merges, withSession, refreshed, atPort, playing, seatAfter, Serving, keeping, retuning, seating, grant, served}
+use Rattle.serving.specs.Serving.{merging, merges, withSession, refreshed, seatAfter, Serving, keeping, retuning, seating, grant, served}
+use Rattle.serving.specs.Turns.{atPort, playing}
 use Rattle.serving.specs.declared.opening.Client.{Client}
 use Rattle.closings.proofs.Keeping.{Whole, closing-whole}
 use Rattle.satbox.proofs.Kept.{merged-whole}

@@ -24,6 +24,8 @@ use Rattle.table.specs.Formed.{wellFormed}
 use Rattle.table.specs.declared.Session.{Session}
 use Rattle.table.specs.declared.SatBox.{SatBox}
 use Rattle.table.specs.declared.Refusal.the-variants as refusal
+use Rattle.stream.specs.declared.Outcome.{Outcome as Merge}
+use Rattle.stream.specs.declared.Outcome.the-variants.{Merged, Combination as Clash, TooMany}
 use Rattle.table.specs.declared.Outcome.{Outcome}
 use Rattle.table.specs.declared.Outcome.the-variants.{Done, Refused}
 use Rattle.steps.specs.Asked.{Asked, Lists, askedOf, listsOf}
@@ -36,11 +38,11 @@ use Rattle.steps.specs.declared.cases.Case.the-variants.{Passed, Reading, Combi
 use Rattle.steps.proofs.ReplyLaws.{Follows, follows-passed, follows-refused, isReading, unread-chain, table-unread, reply-told, Numbers, reply-fits}
 use Rattle.closings.specs.Does.{Does}
 use Rattle.closings.specs.Closing.{swept, sweeping, atClock}
-use Rattle.serving.specs.Serving.{Serving, merging, merges, isClash, isTooMany, isOpening, canSeat, changeCase, caseOf, denied, grant, served, clientOf, answered}
+use Rattle.serving.specs.Serving.{Serving, merging, merges, mergeCase, isOpening, canSeat, caseOf, denied, grant, served, clientOf, answered}
+use Rattle.serving.specs.Turns.{changeCase, performed, TurnIs}
 use Rattle.closings.specs.Did.{bytesOf}
 use Rattle.satbox.specs.Calls.{_else_andThen_, ifDone}
 use Rattle.satbox.specs.Branches.{Responds}
-use Rattle.serving.specs.Turns.{performed, TurnIs}
 use Rattle.satbox.specs.Requests.{requestOutcome, requested, answerOf, replied, repliedInto, repliedJournal}
 use Rattle.serving.specs.declared.opening.Client.{Client}
 use Rattle.serving.specs.declared.Turn.{Turn}
@@ -54,11 +56,14 @@ use Rattle.satbox.proofs.Kept.{sweeping-whole}
 
 -- STEPS 11 TO 18 are none of the reading's
 change-unread : (t : SatBox) (a : Asked) (l : Lists) → isReading (changeCase t a l) ≡ false
-unfolding changeCase
 change-unread t a l =
-    unread-chain (merges (sightOf t a) && isClash (merging t a l .outcome)) Combination _ refl
-    (unread-chain (merges (sightOf t a) && isTooMany (merging t a l .outcome)) TooManyPids _ refl
-    (unread-chain (isOpening (sightOf t a) && not (canSeat t (sightOf t a))) Full Passed refl refl))
+    unread-chain (merges (sightOf t a) && not (isPassed (mergeCase (merging t a l .outcome)))) (mergeCase (merging t a l .outcome)) _ (by (merging t a l .outcome))
+    (unread-chain (isOpening (sightOf t a) && not (canSeat t (sightOf t a))) Full Passed refl refl)
+  where
+    by : (o : Merge) → isReading (mergeCase o) ≡ false
+    by Merged = refl
+    by Clash = refl
+    by TooMany = refl
 
 pub case-unread : (t : SatBox) (a : Asked) (l : Lists) → isReading (caseOf t a l) ≡ false
 unfolding caseOf

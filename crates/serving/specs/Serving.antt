@@ -1,7 +1,7 @@
 -- Document 01: steps 16 to 18, what a request does where nothing refuses it, and all eighteen steps in a row. Assumes nothing.
 use Prim.Native.Nat.{ℕ}
 use mathlib.Core.List.{List}
-use mathlib.Core.Bool.{Bool, true, false, not, cond, _&&_, _||_}
+use mathlib.Core.Bool.{Bool, not, cond, _&&_, _||_}
 use lib.Dec.{eqb}
 use lib.ListN.{getD, set}
 use Rattle.refusals.specs.Refusals as reading
@@ -21,7 +21,7 @@ use Rattle.table.specs.declared.Session.{Session}
 use Rattle.table.specs.declared.SatBox.{SatBox}
 use Rattle.steps.specs.Asked.{Asked, Lists, askedOf, listsOf}
 use Rattle.steps.specs.Sights.{portOf, sightOf}
-use Rattle.steps.specs.Cases.{isPassed, orElse}
+use Rattle.steps.specs.Cases.{isPassed}
 use Rattle.steps.specs.Steps.{isSetup, isNamed, tableCase}
 use Rattle.steps.specs.declared.Sight.{Sight}
 use Rattle.steps.specs.declared.cases.Case.{Case}
@@ -50,15 +50,11 @@ takesQuery m = eqb (methodNumber m) 1 || eqb (methodNumber m) 2
 abbrev pub merges : Sight → Bool
 merges v = takesQuery (v .method) && (eqb (v .stream) 0 || owns (v .stream) (v .session))
 
-abbrev pub isClash : Outcome → Bool
-isClash Merged = false
-isClash Clash = true
-isClash TooMany = false
-
-abbrev pub isTooMany : Outcome → Bool
-isTooMany Merged = false
-isTooMany Clash = false
-isTooMany TooMany = true
+-- 16: "Combination rule broken"; 17: "More than 32 PIDs after merging"
+abbrev pub mergeCase : Outcome → Case
+mergeCase Merged = Passed
+mergeCase Clash = Combination
+mergeCase TooMany = TooManyPids
 
 -- an opening is a SETUP without a session
 abbrev pub isOpening : Sight → Bool
@@ -68,35 +64,26 @@ isOpening v = isSetup (v .method) && not (isNamed v)
 abbrev pub canSeat : SatBox → Sight → Bool
 canSeat t v = cond (eqb (v .stream) 0) (canOpen (feedOf t (v .fe)) t) (canJoin (v .stream) t)
 
--- 16: "Combination rule broken"; 17: "More than 32 PIDs after merging"; 18: "Opening: .."
-unfoldable pub changeCase : SatBox → Asked → Lists → Case
-changeCase t a l =
-    (merges (sightOf t a) && isClash (merging t a l .outcome)) gives Combination or
-    (merges (sightOf t a) && isTooMany (merging t a l .outcome)) gives TooManyPids or
+-- THE CASE of a request that steps 1 to 10 let through: 11 to 15; 16 and 17, where its query is merged; 18: "Opening: .."
+unfoldable pub caseOf : SatBox → Asked → Lists → Case
+caseOf t a l =
+    not (isPassed (tableCase (sightOf t a))) gives tableCase (sightOf t a) or
+    (merges (sightOf t a) && not (isPassed (mergeCase (merging t a l .outcome)))) gives mergeCase (merging t a l .outcome) or
     (isOpening (sightOf t a) && not (canSeat t (sightOf t a))) gives Full or
     Passed
-
--- THE CASE of a request that steps 1 to 10 let through
-unfoldable pub caseOf : SatBox → Asked → Lists → Case
-caseOf t a l = orElse (tableCase (sightOf t a)) (changeCase t a l)
 
 -- WHAT IS DONE: to a session, which is changed in its place; nothing is written of it
 unfoldable pub withSession : ℕ → Session → SatBox → SatBox
 withSession place s t = boxWith (set (t .sessions) place s) (t .streams) (t .held) (t .clock) (t .sequence) t
 
--- an OPTIONS sets "the last time to the clock"; "SETUP in a session replaces only the port"; PLAY "marks the session playing"
+-- an OPTIONS sets "the last time to the clock"
 abbrev pub refreshed : ℕ → Session → Session
 refreshed clock s = sessionWith clock (s .port) (s .playing) s
 
-abbrev pub atPort : ℕ → Session → Session
-atPort port s = sessionWith (s .last) port (s .playing) s
-
-abbrev pub playing : Session → Session
-playing s = sessionWith (s .last) (s .port) 1 s
-
--- the session after a SETUP or a PLAY that names it
+-- the session after a SETUP or a PLAY that names it: "SETUP in a session replaces only the port"; PLAY "marks the session playing"
 abbrev pub seatAfter : Sight → Session
-seatAfter v = cond (isSetup (v .method)) (atPort (v .port) (v .session)) (playing (v .session))
+seatAfter v =
+    let s = v .session in cond (isSetup (v .method)) (sessionWith (s .last) (v .port) (s .playing) s) (sessionWith (s .last) (s .port) 1 s)
 
 -- what a request does, and the session that its answer is about
 pub record Serving : Type 0 where

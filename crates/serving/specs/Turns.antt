@@ -18,7 +18,7 @@ use Rattle.stream.specs.declared.Stream.{Stream}
 use Rattle.stream.specs.declared.Change.{Change}
 use Rattle.stream.specs.declared.Outcome.{Outcome}
 use Rattle.stream.specs.declared.Outcome.the-variants.{Merged, Combination as Clash, TooMany}
-use Rattle.table.specs.Table.{noSession, streamOf, owns}
+use Rattle.table.specs.Table.{noSession, streamOf, owns, sessionWith}
 use Rattle.table.specs.Formed.{wellFormed}
 use Rattle.finding.specs.Finding.{lowestPlace, lowestId}
 use Rattle.table.specs.declared.SatBox.{SatBox}
@@ -34,10 +34,26 @@ use Rattle.closings.specs.Did.{Did, nothing, restreamed, noting}
 use Rattle.closings.specs.Does.{Closable}
 use Rattle.closings.specs.Closing.{closing}
 use Rattle.serving.specs.Opening.{hasPlace, hasRoom, guest, canOpen}
-use Rattle.serving.specs.Serving.{Serving, feedOf, takesQuery, merges, isOpening, withSession, refreshed, seatAfter}
+use Rattle.serving.specs.Serving.{Serving, feedOf, merging, takesQuery, merges, mergeCase, isOpening, canSeat, withSession, refreshed, seatAfter}
 use Rattle.serving.specs.declared.opening.Client.{Client}
 use Rattle.serving.specs.declared.opening.Offer.{Offer}
 use Rattle.serving.specs.declared.Turn.{Turn}
+use Rattle.scan.specs.Lists.{_gives_or_}
+use Rattle.steps.specs.Asked.{Asked, Lists}
+
+-- steps 16 to 18 alone
+abbrev pub changeCase : SatBox → Asked → Lists → Case
+changeCase t a l =
+    (merges (sightOf t a) && not (isPassed (mergeCase (merging t a l .outcome)))) gives mergeCase (merging t a l .outcome) or
+    (isOpening (sightOf t a) && not (canSeat t (sightOf t a))) gives Full or
+    Passed
+
+-- a session at another port, and playing
+abbrev pub atPort : ℕ → Session → Session
+atPort port s = sessionWith (s .last) port (s .playing) s
+
+abbrev pub playing : Session → Session
+playing s = sessionWith (s .last) (s .port) 1 s
 
 -- WHAT AN OPENING WOULD TAKE: on a new stream, or on the one that is named
 abbrev pub guestOf : Client → ℕ → ℕ → ℕ → ℕ → Session

@@ -1,10 +1,9 @@
 -- The refusals of steps 1 to 18, each a case of its own with its step and its status; 0 and 200 where nothing refuses. Assumes nothing.
 use Prim.Native.Nat.{ℕ}
 use lib.Dec.{eqb}
-use mathlib.Core.Bool.{Bool, true, false, not}
+use mathlib.Core.Bool.{Bool}
 use Rattle.steps.specs.declared.cases.Case.{Case}
 use Rattle.steps.specs.declared.cases.Case.the-variants.{Passed, Reading, NoSession, NotLive, State, NotOwner, Transport, Combination, TooManyPids, Full}
-use Rattle.scan.specs.Lists.{_gives_or_}
 use Rattle.refusals.specs.Refusals.{readingRule}
 
 abbrev pub ruleOf : Case → ℕ × ℕ
@@ -27,6 +26,3 @@ statusOf c = ruleOf c .1
 
 abbrev pub isPassed : Case → Bool
 isPassed c = eqb (stepOf c) 0
-
-abbrev pub orElse : Case → Case → Case
-orElse c d = not (isPassed c) gives c or d

@@ -19,6 +19,8 @@ use Rattle.answer.specs.declared.Kind.{Kind}
 use Rattle.answer.specs.declared.Kind.the-variants as kind
 use Rattle.answer.specs.declared.Answer.{Answer}
 use Rattle.steps.specs.Asked.{Asked, Lists}
+use Rattle.steps.specs.Sights.{isAbsent, portOf}
+use Rattle.steps.specs.declared.Sight.{Sight}
 use Rattle.steps.specs.Cases.{statusOf, isPassed}
 use Rattle.steps.specs.declared.cases.Case.{Case}
 use Rattle.steps.specs.declared.cases.Case.the-variants.{Passed, Reading, NoSession, NotLive, State, NotOwner, Transport, Combination, TooManyPids, Full}
@@ -33,6 +35,21 @@ askedBy r =
       query = ltb (r .query .start) (r .query .end);
       session = r .session;
       transport = r .transport;
+    }
+
+-- what it asks beside what was looked up for it
+abbrev pub sighted : Asked → ℕ → Session → ℕ → Sight
+sighted a place session frontend =
+    record {
+      method = a .method;
+      absent = isAbsent (a .session);
+      stream = a .stream;
+      fe = getD (a .codes) 1 0;
+      query = a .query;
+      port = portOf (a .transport);
+      place = place;
+      session = session;
+      frontend = frontend;
     }
 
 abbrev pub queryBy : List ℕ → Request → List ℕ

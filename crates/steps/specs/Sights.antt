@@ -9,7 +9,6 @@ use Rattle.reader.specs.declared.fields.Transport.{Transport}
 use Rattle.reader.specs.declared.fields.Transport.the-variants.{Other, Port}
 use Rattle.table.specs.Table.{sessionAt, streamOf}
 use Rattle.finding.specs.Finding.{placeOf}
-use Rattle.table.specs.declared.Session.{Session}
 use Rattle.table.specs.declared.SatBox.{SatBox}
 use Rattle.steps.specs.Asked.{Asked}
 use Rattle.steps.specs.declared.Sight.{Sight}
@@ -34,9 +33,9 @@ abbrev pub portOf : Transport → ℕ
 portOf Other = 0
 portOf (Port port) = port
 
--- a request beside what was looked up for it: a place, the session there, and a frontend; fe stands at place 1 of document 01's table
-abbrev pub sighted : Asked → ℕ → Session → ℕ → Sight
-sighted a place session frontend =
+-- a request beside what is looked up for it: a place, the session there, and a frontend; fe stands at place 1 of document 01's table
+unfoldable pub sightOf : SatBox → Asked → Sight
+sightOf t a =
     record {
       method = a .method;
       absent = isAbsent (a .session);
@@ -44,10 +43,7 @@ sighted a place session frontend =
       fe = getD (a .codes) 1 0;
       query = a .query;
       port = portOf (a .transport);
-      place = place;
-      session = session;
-      frontend = frontend;
+      place = placeNamed (a .session) t;
+      session = sessionAt t (placeNamed (a .session) t);
+      frontend = streamOf t (a .stream) .frontend;
     }
-
-unfoldable pub sightOf : SatBox → Asked → Sight
-sightOf t a = sighted a (placeNamed (a .session) t) (sessionAt t (placeNamed (a .session) t)) (streamOf t (a .stream) .frontend)
