@@ -18,9 +18,9 @@ use Rattle.target.specs.Uri.{isUri, hasQuery, queryOf}
 use Rattle.target.specs.Steps.{UriIs}
 use Rattle.target.specs.declared.Uri.{Uri}
 use Rattle.aim.specs.Query.{areParts, textIn, codeFrom, codeIn}
-use Rattle.aim.specs.Found.{isWithin, textOf, nowhere, QueryIs, Reached, refusedAim, verdictOf, isSpan, AimIs, judged}
+use Rattle.aim.specs.Found.{isWithin, textOf, nowhere, QueryIs, Reached, refusedAim, verdictOf, isSpan, AimIs, judged, takesNoQuery, lacksStream}
 use Rattle.refusals.specs.Refusals.{isRead}
-use Rattle.aim.specs.Aim.{takesNoQuery, hasStream, lacksStream, uriRefusal}
+use Rattle.aim.specs.Aim.{hasStream, uriRefusal}
 use Rattle.refusals.specs.declared.Refusal.{Refusal}
 use Rattle.refusals.specs.declared.Refusal.the-variants.{Passed, UriLong, UriForm, QueryUntaken, QueryForm, NoStream}
 use Rattle.aim.specs.declared.Method.{Method}

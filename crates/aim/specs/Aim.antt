@@ -24,10 +24,6 @@ methodNumber Play = 2
 methodNumber Teardown = 3
 methodNumber Other = 4
 
--- "a query with OPTIONS or TEARDOWN"
-abbrev pub takesNoQuery : Method → Bool
-takesNoQuery method = eqb (methodNumber method) 0 || eqb (methodNumber method) 3
-
 -- whether a URI names a stream: 0 stands for none
 abbrev pub hasStream : List ℕ → Bool
 hasStream u = not (eqb (codeFrom (streamNamed u)) 0)
@@ -39,19 +35,16 @@ isGiven a u = ltb 0 (length (textIn a (partsOf u)))
 abbrev pub edits : List ℕ → Bool
 edits u = isGiven 11 u || isGiven 12 u
 
--- step 10: "PLAY or TEARDOWN without stream, SETUP with neither stream nor query"
-abbrev pub lacksStream : Method → Bool → Bool → Bool
-lacksStream method stream query =
-    (eqb (methodNumber method) 2 || eqb (methodNumber method) 3 || (eqb (methodNumber method) 1 && not query)) && not stream
-
 unfoldable pub uriRefusal : ℕ → Method → List ℕ → Refusal
 uriRefusal frontends method u =
     ltb 1024 (length u) gives UriLong or
     not (isUri u) gives UriForm or
-    (hasQuery u && takesNoQuery method) gives QueryUntaken or
+    -- 8: "Query wrong in form, an unknown name, a query with OPTIONS or TEARDOWN, pids beside addpids or delpids, addpids or delpids in .."
+    (hasQuery u && (eqb (methodNumber method) 0 || eqb (methodNumber method) 3)) gives QueryUntaken or
     not (areParts [] (partsOf u)) gives QueryForm or
     (isGiven 10 u && edits u) gives PidsClash or
     (edits u && not (hasStream u)) gives PidsUnstreamed or
     not (all (λ p. isValue (valueOf frontends (attributeIn p) (after 61 p))) (partsOf u)) gives Outside or
-    lacksStream method (hasStream u) (hasQuery u) gives NoStream or
+    -- 10: "PLAY or TEARDOWN without stream, SETUP with neither stream nor query"
+    ((eqb (methodNumber method) 2 || eqb (methodNumber method) 3 || (eqb (methodNumber method) 1 && not (hasQuery u))) && not (hasStream u)) gives NoStream or
     Passed

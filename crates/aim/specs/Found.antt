@@ -20,12 +20,20 @@ use Rattle.refusals.specs.declared.Refusal.{Refusal}
 use Rattle.refusals.specs.declared.Refusal.the-variants.{Passed, PidsClash, PidsUnstreamed, NoStream}
 use Rattle.aim.specs.declared.Method.{Method}
 use Rattle.aim.specs.declared.Aim.{Aim}
-use Rattle.aim.specs.Aim.{lacksStream, uriRefusal}
+use Rattle.aim.specs.Aim.{methodNumber, uriRefusal}
 use Rattle.scan.specs.Lists.{all, first, _gives_or_}
 use Rattle.scan.specs.Cut.{is, after, cut}
 use Rattle.digits.specs.Reading.{isValue}
 use Rattle.tuning.specs.Values.{valueOf}
 use Rattle.refusals.specs.declared.Refusal.the-variants.{Value as Outside}
+
+-- "a query with OPTIONS or TEARDOWN"; "PLAY or TEARDOWN without stream, SETUP with neither stream nor query"
+abbrev pub takesNoQuery : Method → Bool
+takesNoQuery method = eqb (methodNumber method) 0 || eqb (methodNumber method) 3
+
+abbrev pub lacksStream : Method → Bool → Bool → Bool
+lacksStream method stream query =
+    (eqb (methodNumber method) 2 || eqb (methodNumber method) 3 || (eqb (methodNumber method) 1 && not query)) && not stream
 
 abbrev pub nowhere : Span
 nowhere = record { start = 0; end = 0 }

@@ -14,10 +14,6 @@ use Rattle.table.specs.declared.Session.{Session}
 abbrev pub lowestPlace : List Session → ℕ
 lowestPlace l = first isFree l
 
--- the place of the session that has a number; 32 where none has it
-abbrev pub placeOf : ℕ → List Session → ℕ
-placeOf n l = first (hasNumber n) l
-
 -- "the lowest free ID"; 9 where none is free
 abbrev pub lowestId : List Stream → ℕ
 lowestId ms = suc (first isDead ms)

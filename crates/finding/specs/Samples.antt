@@ -3,9 +3,10 @@ use mathlib.Core.Path.{_≡_, refl}
 use mathlib.Core.List.{[], _∷_}
 use lib.ListN.{replicate}
 use Rattle.stream.specs.Streams.{blank}
-use Rattle.table.specs.Table.{noSession}
+use Rattle.table.specs.Table.{noSession, hasNumber}
 use Rattle.table.specs.Samples.{owner, joiner, places, rows}
-use Rattle.finding.specs.Finding.{lowestPlace, placeOf, lowestId, lowestFrontend, drawn}
+use Rattle.finding.specs.Finding.{lowestPlace, lowestId, lowestFrontend, drawn}
+use Rattle.scan.specs.Lists.{first}
 
 -- P3: "draw 0 gives 00000001"
 pub p3 : drawn (places []) 0 ≡ 1
@@ -18,7 +19,7 @@ unfolding drawn
 p4 = (refl, refl)
 
 -- "the lowest free place", ID and frontend: in a gap, and where there is none
-pub places-free : (lowestPlace (places (owner 1 ∷ noSession ∷ joiner 2 ∷ [])) ≡ 1) × (lowestPlace (replicate 32 (owner 1)) ≡ 32) × (placeOf 2 (places (owner 1 ∷ noSession ∷ joiner 2 ∷ [])) ≡ 2)
+pub places-free : (lowestPlace (places (owner 1 ∷ noSession ∷ joiner 2 ∷ [])) ≡ 1) × (lowestPlace (replicate 32 (owner 1)) ≡ 32) × (first (hasNumber 2) (places (owner 1 ∷ noSession ∷ joiner 2 ∷ [])) ≡ 2)
 places-free = (refl, refl, refl)
 
 pub ids-free : (lowestId (rows (blank 2 ∷ [])) ≡ 2) × (lowestId (replicate 8 (blank 1)) ≡ 9)

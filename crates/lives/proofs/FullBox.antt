@@ -13,7 +13,7 @@ use Rattle.table.specs.Table.{openCount}
 use Rattle.table.specs.Made.{settingsOf}
 use Rattle.table.specs.declared.SatBox.{SatBox}
 use Rattle.steps.specs.Asked.{askedOf, listsOf}
-use Rattle.steps.specs.Cases.{statusOf}
+use Rattle.steps.specs.Cases.{ruleOf}
 use Rattle.steps.specs.declared.cases.Case.{Case}
 use Rattle.steps.specs.declared.cases.Case.the-variants.{Passed, Full}
 use Rattle.closings.specs.Closing.{sweeping}
@@ -53,7 +53,7 @@ pub record Meets (n room : ℕ) (case : Case) (status : ℕ) : Type 0 where
   pub else : PassesElse (swept n) (askedOf 2 example) (listsOf example)
   pub needed : swept n .held + recordSize * openCount (swept n) + 2 * recordSize ≡ room
   pub is : requested example 0 home 1 (life n .satbox) .case ≡ case
-  pub answered : statusOf case ≡ status
+  pub answered : ruleOf case .1 ≡ status
 
 -- a request that is lent the box's journal and a long enough buffer does what it is to do, and so do any in a row
 asking-does : {x : Life} → Good (settingsOf 2 1024) x → (s : List ℕ) → live (asking s) x .satbox ≡ requested s 0 home 1 (x .satbox) .did .satbox
@@ -94,7 +94,7 @@ module _ (n : ℕ) (lives : Lives (settingsOf 2 1024) journal (calls n)) (leads 
   needs : swept n .held + recordSize * openCount (swept n) + 2 * recordSize ≡ 32 * n + 32
   needs = ap (λ t. t .held + 16 * openCount t + 32) swept-idle ∙ omega arith
 
-  meets : (case : Case) → requested example 0 home 1 (life n .satbox) .case ≡ case → Meets n (32 * n + 32) case (statusOf case)
+  meets : (case : Case) → requested example 0 home 1 (life n .satbox) .case ≡ case → Meets n (32 * n + 32) case (ruleOf case .1)
   meets case e = record { lives = lives; read = example-read; else = passes-else; needed = needs; is = e; answered = refl }
 
   meets-passed : 32 * n + 32 ≤ 1024 → Meets n (32 * n + 32) Passed 200

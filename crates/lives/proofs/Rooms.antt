@@ -17,7 +17,8 @@ use Rattle.table.specs.declared.Settings.{Settings}
 use Rattle.table.specs.declared.SatBox.{SatBox}
 use Rattle.steps.specs.Asked.{Asked, Lists, askedOf, listsOf}
 use Rattle.steps.specs.Sights.{sightOf}
-use Rattle.steps.specs.Steps.{isSetup, namesDead}
+use Rattle.steps.specs.Steps.{isSetup}
+use Rattle.steps.specs.Tests.{namesDead}
 use Rattle.steps.specs.declared.cases.Case.{Case}
 use Rattle.steps.specs.declared.cases.Case.the-variants.{Passed, Full}
 use Rattle.serving.specs.Opening.{hasRoom}
@@ -38,7 +39,7 @@ setup-only Other e = never e refl
 module _ (t : SatBox) (a : Asked) (l : Lists) (p : PassesElse t a l) where
   -- a stream that is named is live, by step 12
   live : (sightOf t a .stream ≡ 0 → ⊥) → isLive (streamOf t (sightOf t a .stream)) ≡ true
-  unfolding namesDead sightOf
+  unfolding sightOf
   live some =
       let m = setup-only (sightOf t a .method) (and-both (isSetup (sightOf t a .method)) _ (p .opening) .0) in
       rw (rw (m, ne-eqb (sightOf t a .stream) 0 some) at (untested (sightOf t a) (p .seen) .stream))

@@ -4,7 +4,7 @@ use mathlib.Core.List.{List, [], _∷_}
 use Rattle.scan.specs.Text.{text, _&_}
 use Rattle.table.specs.Made.{settingsOf, fresh}
 use Rattle.table.specs.declared.SatBox.{SatBox}
-use Rattle.steps.specs.Cases.{stepOf, statusOf}
+use Rattle.steps.specs.Cases.{ruleOf}
 use Rattle.steps.specs.declared.cases.Case.{Case}
 use Rattle.serving.specs.Serving.{Serving}
 use Rattle.satbox.specs.Requests.{requested}
@@ -58,7 +58,7 @@ home = 0xC0A8B227
 
 -- THE ANSWERS: the step that refuses, 0 where none does, and the status
 abbrev pub verdictOf : Case → ℕ × ℕ
-verdictOf case = (stepOf case, statusOf case)
+verdictOf case = ruleOf case
 
 abbrev pub verdict : Serving → ℕ × ℕ
 verdict x = verdictOf (x .case)

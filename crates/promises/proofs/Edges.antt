@@ -19,8 +19,8 @@ use Rattle.aim.specs.Aim.{uriRefusal}
 use Rattle.aim.specs.declared.Method.the-variants.{Setup}
 use Rattle.refusals.specs.declared.Refusal.{Refusal}
 use Rattle.refusals.specs.declared.Refusal.the-variants.{Value as Outside}
-use Rattle.reader.specs.Fields.{cseqFrom, sessionOf, sessionIn, transportOf}
-use Rattle.reader.specs.Request.{methodIn, cseqOf, headRefusal, requestRefusal}
+use Rattle.reader.specs.Fields.{cseqFrom, sessionOf, transportOf}
+use Rattle.reader.specs.Request.{cseqOf, headRefusal, requestRefusal, methodOf}
 use Rattle.reader.specs.declared.fields.Session.the-variants.{Absent}
 use Rattle.reader.specs.declared.fields.Transport.the-variants.{Other, Port}
 use Rattle.journal.specs.Bytes.{encoded}
@@ -42,7 +42,7 @@ use Rattle.table.specs.declared.Outcome.the-variants.{Done}
 use Rattle.answer.specs.Lines.{reasonOf}
 use Rattle.steps.specs.Asked.{Asked, Lists, codesIn}
 use Rattle.steps.specs.Sights.{sightOf}
-use Rattle.steps.specs.Steps.{lacksSession, namesDead, isOutOfState, isAnothers, lacksPort, tableCase}
+use Rattle.steps.specs.Steps.{tableCase}
 use Rattle.steps.specs.Replies.{replyText}
 use Rattle.steps.specs.declared.cases.Case.{Case}
 use Rattle.steps.specs.declared.cases.Case.the-variants.{Reading, Transport, TooManyPids}
@@ -58,7 +58,7 @@ use lib.Dec.{ltb}
 
 -- Named on a proof's `unfolding` line, these let meanings be worked out there: of reading, of lists of PIDs, of serving; and all of them
 unfoldable pub reading : ℕ
-unfolding requestRefusal headRefusal cseqOf cseqFrom isLaidOut requestLine headerLines methodIn uriRefusal isUri streamOfPath attributeIn attributeOf valueOf frequency arePids placeAmong readNumber readHex8 codesIn codeIn textIn sessionOf sessionIn transportOf
+unfolding requestRefusal headRefusal cseqOf cseqFrom isLaidOut requestLine headerLines methodOf uriRefusal isUri streamOfPath attributeIn attributeOf valueOf frequency arePids placeAmong readNumber readHex8 codesIn codeIn textIn sessionOf transportOf
 reading = 0
 
 unfoldable pub listing : ℕ
@@ -66,7 +66,7 @@ unfolding listed numbersIn readNumber
 listing = 0
 
 unfoldable pub serving : ℕ
-unfolding requested answered served caseOf merging withSession joining opening seatingAs closeOne closeOn cascade closing sweepAt swept atClock upto restreamed reseated noting tableCase lacksSession namesDead isOutOfState isAnothers lacksPort sightOf drawn lowestFrontend mergeOf changed chosen goTogether merged
+unfolding requested answered served caseOf merging withSession joining opening seatingAs closeOne closeOn cascade closing sweepAt swept atClock upto restreamed reseated noting tableCase sightOf drawn lowestFrontend mergeOf changed chosen goTogether merged
 serving = 0
 
 unfoldable pub meanings : ℕ

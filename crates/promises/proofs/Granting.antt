@@ -11,7 +11,8 @@ use borrow.Author.Tests.{lt-ltb, eq-eqb, ne-eqb}
 use Rattle.scan.proofs.Bools.{never, Case as Test, is, isnt, case}
 use Rattle.scan.specs.Text.{text, _&_}
 use Rattle.target.specs.Uri.{isUri, hasQuery}
-use Rattle.aim.specs.Aim.{takesNoQuery, uriRefusal}
+use Rattle.aim.specs.Aim.{uriRefusal}
+use Rattle.aim.specs.Found.{takesNoQuery}
 use Rattle.refusals.specs.Refusals as reading
 use Rattle.aim.specs.declared.Method.the-variants.{Options, Teardown}
 use Rattle.refusals.specs.declared.Refusal.{Refusal}
@@ -24,7 +25,7 @@ use Rattle.table.specs.declared.SatBox.{SatBox}
 use Rattle.table.proofs.Changes.{seated-live}
 use Rattle.steps.specs.Asked.{Asked, codesIn, askedOf, listsOf}
 use Rattle.steps.specs.Sights.{placeNamed, sightOf}
-use Rattle.steps.specs.Steps.{lacksSession, namesDead, isOutOfState, isAnothers, lacksPort, tableCase}
+use Rattle.steps.specs.Steps.{tableCase}
 use Rattle.steps.specs.declared.cases.Case.the-variants.{Passed}
 use Rattle.serving.specs.Serving.{Serving, clientOf, answered}
 use Rattle.satbox.specs.Requests.{answerOf}
@@ -88,7 +89,7 @@ module _ (s : List ℕ) (address draw : ℕ) (t : SatBox) (read : requestRefusal
     -- OPTIONS
     module _ (options : methodOf s ≡ Options) where
       options-table : tableCase (sightOf t a) ≡ Passed
-      unfolding tableCase lacksSession namesDead isOutOfState isAnothers lacksPort sightOf
+      unfolding tableCase sightOf
       options-table = rw (options, lt-ltb place 32 named, no-query (rw options))
 
       pub options-passes : answered s address draw t .case ≡ Passed
@@ -107,7 +108,7 @@ module _ (s : List ℕ) (address draw : ℕ) (t : SatBox) (read : requestRefusal
       some z = live (ap (λ k. streamOf t k .frontend) z)
 
       teardown-table : tableCase (sightOf t a) ≡ Passed
-      unfolding tableCase lacksSession namesDead isOutOfState isAnothers lacksPort sightOf
+      unfolding tableCase sightOf
       teardown-table =
           rw (teardown, lt-ltb place 32 named, ne-eqb (a .stream) 0 some, ne-eqb (streamOf t (a .stream) .frontend) 0 live, eq-eqb (a .stream) (sessionAt t place .stream) own, no-fe (rw teardown), no-query (rw teardown))
 

@@ -12,7 +12,8 @@ use Rattle.table.specs.declared.SatBox.{SatBox}
 use Rattle.steps.specs.Asked.{Asked, Lists}
 use Rattle.steps.specs.Sights.{sightOf}
 use Rattle.steps.specs.Cases.{isPassed}
-use Rattle.steps.specs.Steps.{isSetup, isNamed, lacksPort, tableCase}
+use Rattle.steps.specs.Steps.{isSetup, isNamed, tableCase}
+use Rattle.steps.specs.Tests.{lacksPort}
 use Rattle.steps.specs.declared.Sight.{Sight}
 use Rattle.steps.specs.declared.cases.Case.{Case as Verdict}
 use Rattle.steps.specs.declared.cases.Case.the-variants.{Passed, Combination, TooManyPids, Full}
@@ -77,7 +78,6 @@ tears-closable t a w p e = named-closable t w a (sightOf t a) refl (named-needed
 
 -- 15: a SETUP has a port
 pub through-port : (v : Sight) → Untested v → isSetup (v .method) ≡ true → v .port ≡ 0 → ⊥
-unfolding lacksPort
 through-port v p setup = eqb-false _ _ (and-other (isSetup (v .method)) _ (p .port) setup)
 
 -- the frontend that a new stream takes

@@ -15,12 +15,12 @@ use Rattle.digits.specs.declared.Read.{Read}
 use Rattle.digits.specs.declared.Read.the-variants.{Value, Nothing}
 use Rattle.digits.specs.declared.Zeros.the-variants.{Refused}
 use Rattle.target.specs.Uri.{startsWith}
-use Rattle.reader.specs.Fields.{sessionFrom, sessionIn, portFrom, portsIn, transportOf}
+use Rattle.reader.specs.Fields.{sessionFrom, portFrom, portsIn, transportOf}
+use Rattle.reader.specs.Heads.{sessionIn}
 use Rattle.reader.specs.declared.fields.Transport.{Transport}
 use Rattle.reader.specs.declared.fields.Transport.the-variants.{Other}
 
 pub session-read : (v : List ℕ) {k : ℕ} {n r : Read} → FirstOf (is 59) v k → n ≡ readHex8 (part 0 k v) → n ≡ r → sessionFrom r ≡ sessionIn v
-unfolding sessionIn
 session-read v f e q = rw (← f .is, ← e, q)
 
 -- no text is no number, so without a dash there is no second port

@@ -28,11 +28,11 @@ use Rattle.lines.specs.declared.Lines.{Lines}
 use Rattle.target.specs.Line.{isThree, linePart}
 use Rattle.target.specs.Steps.{PartsAre}
 use Rattle.target.specs.declared.Parts.{Parts}
-use Rattle.reader.specs.Fields.{cseqFrom, sessionOf, sessionIn, transportOf}
-use Rattle.reader.specs.Heads.{headText, cseqAt, sessionSeen, areTwice, Begun, Headed, Passing, uriStart, refusedRequest, RequestIs, isOther, isVersion}
+use Rattle.reader.specs.Fields.{cseqFrom, sessionOf, transportOf}
+use Rattle.reader.specs.Heads.{sessionIn, headText, cseqAt, sessionSeen, areTwice, Begun, Headed, Passing, uriStart, refusedRequest, RequestIs, isOther, isVersion, methodIn, areRepeated}
 use Rattle.aim.specs.Found.{nowhere, AimIs}
 use Rattle.refusals.specs.Refusals.{isRead, readingRule}
-use Rattle.reader.specs.Request.{methodIn, cseqOf, isTwice, methodOf, uriOf, headRefusal, requestRefusal}
+use Rattle.reader.specs.Request.{cseqOf, methodOf, uriOf, headRefusal, requestRefusal}
 use Rattle.refusals.specs.declared.Refusal.{Refusal}
 use Rattle.refusals.specs.declared.Refusal.the-variants.{Passed, Layout, CSeq, RequestLine, HeaderTwice, Version, Require, UriLong, UriForm, QueryUntaken, QueryForm, PidsClash, PidsUnstreamed, NoStream}
 use Rattle.refusals.specs.declared.Refusal.the-variants.{Method as OtherMethod, Value as Outside}
@@ -199,6 +199,7 @@ module _ (frontends : ℕ) (s : List ℕ) {l : Lines} {c : Read} {p : Parts} (h 
   uri-held = h .parts-are .uri (h .three) .is ∙ ap (linePart 1) (sym line-is)
 
   pub method-read : {m : Method} → m ≡ methodIn (part 0 (p .first) (part 0 (l .line) s)) → m ≡ methodOf s
+  unfolding methodOf
   method-read e = e ∙ ap methodIn method-held
 
   head-is : headRefusal s ≡ isOther (methodOf s) gives OtherMethod or Passed
@@ -281,7 +282,7 @@ module _ (s : List ℕ) {l : Lines} {c : Read} (b : Begun s l c) where
     request-unparted n = rw (begun-is, b .some, three-is ∙ n)
 
     module _ (y : p .sound ≡ true) {t : Bool} (w : t ≡ areTwice (l .headers)) where
-      twice-is : isTwice (headerLines s) ≡ t
+      twice-is : areRepeated s ≡ t
       twice-is = sym (w ∙ rw (seen-twice (seen-of 1), seen-twice (seen-of 2), seen-twice (seen-of 3), seen-twice (seen-of 4)))
 
       pub request-twice : t ≡ true → headRefusal s ≡ HeaderTwice

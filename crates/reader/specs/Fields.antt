@@ -26,11 +26,8 @@ abbrev pub sessionFrom : Read → Session
 sessionFrom (Value n) = Named n
 sessionFrom Nothing = Malformed
 
-unfoldable pub sessionIn : List ℕ → Session
-sessionIn v = sessionFrom (readHex8 (before 59 v))
-
 unfoldable pub sessionOf : List (List ℕ) → Session
-sessionOf vs = cond (eqb (length vs) 0) Absent (sessionIn (firstValue vs))
+sessionOf vs = cond (eqb (length vs) 0) Absent (sessionFrom (readHex8 (before 59 (firstValue vs))))
 
 -- step 15's reading: "exactly `RTP/AVP;unicast;client_port=a-b`, decimal without leading zeros, a even, 1024 to 65534, b = a + 1"
 abbrev pub portFrom : Read → Read → Transport

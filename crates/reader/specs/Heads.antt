@@ -8,7 +8,7 @@ use lib.Dec.{ltb, eqb}
 use lib.ListN.{length, getD, replicate}
 use Rattle.scan.specs.Lists.{part, first}
 use Rattle.scan.specs.Found.{Holds}
-use Rattle.digits.specs.Reading.{readNumber, isValue}
+use Rattle.digits.specs.Reading.{readNumber, isValue, readHex8}
 use Rattle.digits.specs.declared.Read.{Read}
 use Rattle.digits.specs.declared.Read.the-variants.{Value as Number, Nothing}
 use Rattle.digits.specs.declared.Zeros.the-variants.{Allowed}
@@ -19,7 +19,7 @@ use Rattle.lines.specs.declared.Seen.{Seen}
 use Rattle.lines.specs.declared.Lines.{Lines}
 use Rattle.target.specs.Steps.{PartsAre}
 use Rattle.target.specs.declared.Parts.{Parts}
-use Rattle.reader.specs.Fields.{sessionIn, sessionOf, transportOf}
+use Rattle.reader.specs.Fields.{sessionFrom, sessionOf, transportOf}
 use Rattle.target.specs.Uri.{streamNamed, hostOf, queryOf}
 use Rattle.aim.specs.Found.{nowhere, queryStart, startIn}
 use Rattle.refusals.specs.Refusals.{isRead}
@@ -37,8 +37,9 @@ use Rattle.refusals.specs.declared.Refusal.the-variants.{Passed, Require}
 use Rattle.aim.specs.declared.Method.the-variants.{Other, Options, Setup, Play, Teardown}
 use Rattle.reader.specs.declared.fields.Transport.the-variants.{Other as NoTransport}
 use Rattle.reader.specs.declared.Request.{Request}
-use Rattle.scan.specs.Cut.{is}
+use Rattle.scan.specs.Cut.{is, before}
 use Rattle.scan.specs.Text.{text}
+use Rattle.scan.specs.Words.{placeAmong}
 use Rattle.scan.specs.Compare.{areAlike}
 use Rattle.scan.specs.declared.Case.the-variants.{Counts}
 
@@ -49,12 +50,18 @@ uriStart s = length (linePart 0 (requestLine s)) + 1
 abbrev pub isPair : ℕ → ℕ → Bool
 isPair a b = eqb (a % 2) 0 && eqb b (a + 1)
 
+abbrev pub sessionIn : List ℕ → Session
+sessionIn v = sessionFrom (readHex8 (before 59 v))
+
 abbrev pub dash : List ℕ → ℕ
 dash ports = first (is 45) ports
 
 -- the method of a place among the words
 abbrev pub methodAt : ℕ → Method
 methodAt k = getD (Options ∷ Setup ∷ Play ∷ Teardown ∷ []) k Other
+
+abbrev pub methodIn : List ℕ → Method
+methodIn m = methodAt (placeAmong Counts (text "OPTIONS SETUP PLAY TEARDOWN") m)
 
 abbrev pub isOther : Method → Bool
 isOther method = eqb (methodNumber method) 4
@@ -77,6 +84,9 @@ isRepeated headers k = ltb 1 (getD headers k unseen .times)
 abbrev pub areTwice : List Seen → Bool
 areTwice headers = isRepeated headers 1 || isRepeated headers 2 || isRepeated headers 3 || isRepeated headers 4
 
+abbrev pub areRepeated : List ℕ → Bool
+areRepeated s = isTwice 1 s || isTwice 2 s || isTwice 3 s || isTwice 4 s
+
 -- a request whose layout is whole and whose CSeq was read: past steps 1 and 2
 pub record Begun (s : List ℕ) (l : Lines) (cseq : Read) : Type 0 where
   pub lines : LinesAre s l
@@ -89,7 +99,7 @@ pub record Headed (s : List ℕ) (l : Lines) (cseq : Read) (parts : Parts) : Typ
   pub begun : Begun s l cseq
   pub parts-are : PartsAre (part 0 (l .line) s) parts
   pub three : parts .sound ≡ true
-  pub once : isTwice (headerLines s) ≡ false
+  pub once : areRepeated s ≡ false
   pub version : isVersion s ≡ true
   pub free : ltb 0 (length (valuesOf 3 (headerLines s))) ≡ false
   pub line-in : l .line ≤ length s

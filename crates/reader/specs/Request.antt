@@ -24,31 +24,27 @@ use Rattle.aim.specs.declared.Method.the-variants.{Options, Setup, Play, Teardo
 use Rattle.aim.specs.Aim.{uriRefusal, methodNumber}
 use Rattle.scan.specs.Lists.{_gives_or_}
 
--- a method by its word; "case counts"
-unfoldable pub methodIn : List ℕ → Method
-methodIn m = getD (Options ∷ Setup ∷ Play ∷ Teardown ∷ []) (placeAmong Counts (text "OPTIONS SETUP PLAY TEARDOWN") m) Other
-
 -- the CSeq that a whole layout carries
 unfoldable pub cseqOf : List ℕ → Read
 cseqOf s = cond (isLaidOut s) (cseqFrom (valuesOf 0 (headerLines s))) Nothing
 
--- "another known header twice": Session 1, Transport 2, Require 3, Accept 4
-abbrev pub isTwice : List (List ℕ) → Bool
-isTwice hs =
-    ltb 1 (length (valuesOf 1 hs)) || ltb 1 (length (valuesOf 2 hs)) || ltb 1 (length (valuesOf 3 hs)) || ltb 1 (length (valuesOf 4 hs))
-
-abbrev pub methodOf : List ℕ → Method
-methodOf s = methodIn (linePart 0 (requestLine s))
+-- a method by its word; "case counts"
+unfoldable pub methodOf : List ℕ → Method
+methodOf s = getD (Options ∷ Setup ∷ Play ∷ Teardown ∷ []) (placeAmong Counts (text "OPTIONS SETUP PLAY TEARDOWN") (linePart 0 (requestLine s))) Other
 
 abbrev pub uriOf : List ℕ → List ℕ
 uriOf s = linePart 1 (requestLine s)
+
+abbrev pub isTwice : ℕ → List ℕ → Bool
+isTwice k s = ltb 1 (length (valuesOf k (headerLines s)))
 
 unfoldable pub headRefusal : List ℕ → Refusal
 headRefusal s =
     not (isLaidOut s) gives Layout or
     not (isValue (cseqOf s)) gives CSeq or
     not (isThree (requestLine s)) gives RequestLine or
-    isTwice (headerLines s) gives HeaderTwice or
+    -- "another known header twice": Session 1, Transport 2, Require 3, Accept 4
+    (isTwice 1 s || isTwice 2 s || isTwice 3 s || isTwice 4 s) gives HeaderTwice or
     not (areAlike Counts (linePart 2 (requestLine s)) (text "RTSP/1.0")) gives Version or
     ltb 0 (length (valuesOf 3 (headerLines s))) gives Require or
     eqb (methodNumber (methodOf s)) 4 gives OtherMethod or

@@ -1,7 +1,7 @@
 // What the known headers say, each read off its place in the request.
 ghost use mathlib.Core.Path.{_≡_};
-ghost use Rattle.reader.specs.Fields.{sessionIn, portFrom, portsIn, transportOf};
-ghost use Rattle.reader.specs.Heads.{isPair};
+ghost use Rattle.reader.specs.Fields.{portFrom, portsIn, transportOf};
+ghost use Rattle.reader.specs.Heads.{sessionIn, isPair};
 use digits::Read;
 use digits::Zeros;
 use scan::Class;

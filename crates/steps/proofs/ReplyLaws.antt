@@ -21,16 +21,16 @@ use Rattle.lines.specs.Headers.{valuesOf, firstValue}
 use Rattle.target.specs.Line.{isThree}
 use Rattle.target.specs.Uri.{isUri, hostOf, hasQuery, queryOf}
 use Rattle.aim.specs.Query.{partsOf, areParts}
-use Rattle.aim.specs.Found.{nowhere, isWithin}
-use Rattle.aim.specs.Aim.{takesNoQuery, hasStream, isGiven, edits, lacksStream, uriRefusal}
+use Rattle.aim.specs.Found.{nowhere, isWithin, takesNoQuery, lacksStream}
+use Rattle.aim.specs.Aim.{hasStream, isGiven, edits, uriRefusal}
 use Rattle.refusals.specs.Refusals as reading
 use Rattle.aim.specs.declared.Method.{Method}
 use Rattle.aim.specs.declared.Method.the-variants.{Options, Setup, Play, Teardown, Other}
 use Rattle.refusals.specs.declared.Refusal.{Refusal}
 use Rattle.refusals.specs.declared.Refusal.the-variants as refusal
 use Rattle.reader.specs.Fields.{cseqFrom}
-use Rattle.reader.specs.Request.{methodOf, uriOf, cseqOf, isTwice, headRefusal, requestRefusal}
-use Rattle.reader.specs.Heads.{isOther, isVersion, RequestIs}
+use Rattle.reader.specs.Request.{methodOf, uriOf, cseqOf, headRefusal, requestRefusal}
+use Rattle.reader.specs.Heads.{isOther, isVersion, RequestIs, areRepeated}
 use Rattle.reader.specs.declared.Request.{Request}
 use Rattle.table.specs.declared.Session.{Session}
 use Rattle.answer.specs.Lines.{refusedLines, answerLines}
@@ -39,8 +39,9 @@ use Rattle.answer.specs.declared.Answer.{Answer}
 use Rattle.answer.specs.declared.Kind.the-variants as kind
 use Rattle.answer.proofs.Fits.{Is-small, answer-fits}
 use Rattle.steps.proofs.Telling.{asked-short, head-short}
-use Rattle.steps.specs.Cases.{stepOf, statusOf, isPassed}
-use Rattle.steps.specs.Steps.{lacksSession, namesDead, isOutOfState, isAnothers, lacksPort, tableCase}
+use Rattle.steps.specs.Cases.{ruleOf, isPassed}
+use Rattle.steps.specs.Steps.{tableCase}
+use Rattle.steps.specs.Tests.{lacksSession, namesDead, isOutOfState, isAnothers, lacksPort}
 use Rattle.steps.specs.Replies.{grantedLines, replyText}
 use Rattle.steps.specs.Handed.{grantedKind, kindOf, replyTo}
 use Rattle.steps.specs.declared.Sight.{Sight}
@@ -67,7 +68,7 @@ pub data Follows (r : Request) (c : Case) : Type 0 where
 
 -- a case that refuses, and is answered without a line of its own
 abbrev Is-bare : Case → Type 0
-Is-bare c = (isPassed c ≡ false) × ((method : Method) → kindOf c method ≡ kind.Bare) × ((value : List ℕ) → refusedLines (stepOf c) value ≡ [])
+Is-bare c = (isPassed c ≡ false) × ((method : Method) → kindOf c method ≡ kind.Bare) × ((value : List ℕ) → refusedLines (ruleOf c .0) value ≡ [])
 
 -- what holds of the case that passes, and of every such case, holds of all that are not the reading's
 unread-keeps : (P : Case → Type 0) → P Passed → ((c : Case) → Is-bare c → P c) → (c : Case) → isReading c ≡ false → P c
@@ -143,7 +144,7 @@ head-step s =
     keeps (not (isLaidOut s)) refusal.Layout _ (λ e. absurd (omega arith))
     (keeps (not (isValue (cseqOf s))) refusal.CSeq _ (λ e. absurd (omega arith))
     (keeps (not (isThree (requestLine s))) refusal.RequestLine _ (λ e. absurd (omega arith))
-    (keeps (isTwice (headerLines s)) refusal.HeaderTwice _ (λ e. absurd (omega arith))
+    (keeps (areRepeated s) refusal.HeaderTwice _ (λ e. absurd (omega arith))
     (keeps (not (isVersion s)) refusal.Version _ (λ e. absurd (omega arith))
     (keeps (ltb 0 (length (valuesOf 3 (headerLines s)))) refusal.Require _ (λ e. refl)
     (keeps (isOther (methodOf s)) refusal.Method refusal.Passed (λ e. absurd (omega arith)) (λ e. absurd (omega arith))))))))
@@ -201,7 +202,7 @@ module _ (frontends : ℕ) (s : List ℕ) (r : Request) (i : RequestIs frontends
 
   -- and which lines are written
   abbrev linesIn : Case → Session → List ℕ
-  linesIn c session = cond (isPassed c) (grantedLines (methodOf s) (hostOf (uriOf s)) session) (refusedLines (stepOf c) (firstValue (valuesOf 3 (headerLines s))))
+  linesIn c session = cond (isPassed c) (grantedLines (methodOf s) (hostOf (uriOf s)) session) (refusedLines (ruleOf c .0) (firstValue (valuesOf 3 (headerLines s))))
 
   lines-told : (c : Case) (session : Session) → Follows r c → linesOf (textAt s (wordAt c)) (replyTo c r session) ≡ linesIn c session
   unfolding replyTo
@@ -221,8 +222,8 @@ module _ (frontends : ℕ) (s : List ℕ) (r : Request) (i : RequestIs frontends
   pub reply-told : (c : Case) (session : Session) → Follows r c → answerText s (replyTo c r session) ≡ replyText c s session
   unfolding replyTo replyText
   reply-told c session p =
-      ap (answerLines (statusOf c) (r .cseq)) (lines-told c session p)
-      ∙ ap (λ n. answerLines (statusOf c) n (linesIn c session)) (i .cseq)
+      ap (answerLines (ruleOf c .1) (r .cseq)) (lines-told c session p)
+      ∙ ap (λ n. answerLines (ruleOf c .1) n (linesIn c session)) (i .cseq)
 
   -- ITS WORD IS SHORT
   word-short : (c : Case) → Follows r c → length (textAt s (wordAt c)) ≤ 2048
@@ -253,7 +254,7 @@ status-read refusal.PidsUnstreamed = omega arith
 status-read refusal.Value = omega arith
 status-read refusal.NoStream = omega arith
 
-status-small : (c : Case) → statusOf c < 1000
+status-small : (c : Case) → ruleOf c .1 < 1000
 status-small Passed = omega arith
 status-small (Reading q) = status-read q
 status-small NoSession = omega arith

@@ -18,11 +18,5 @@ ruleOf Combination = (16, 403)
 ruleOf TooManyPids = (17, 503)
 ruleOf Full = (18, 503)
 
-abbrev pub stepOf : Case → ℕ
-stepOf c = ruleOf c .0
-
-abbrev pub statusOf : Case → ℕ
-statusOf c = ruleOf c .1
-
 abbrev pub isPassed : Case → Bool
-isPassed c = eqb (stepOf c) 0
+isPassed c = eqb (ruleOf c .0) 0

@@ -21,7 +21,7 @@ use Rattle.answer.specs.declared.Answer.{Answer}
 use Rattle.steps.specs.Asked.{Asked, Lists}
 use Rattle.steps.specs.Sights.{isAbsent, portOf}
 use Rattle.steps.specs.declared.Sight.{Sight}
-use Rattle.steps.specs.Cases.{statusOf, isPassed}
+use Rattle.steps.specs.Cases.{ruleOf, isPassed}
 use Rattle.steps.specs.declared.cases.Case.{Case}
 use Rattle.steps.specs.declared.cases.Case.the-variants.{Passed, Reading, NoSession, NotLive, State, NotOwner, Transport, Combination, TooManyPids, Full}
 use Rattle.refusals.specs.Refusals.{readingRule}
@@ -101,7 +101,7 @@ unfoldable pub replyTo : Case → Request → Session → Answer
 replyTo case r s =
     record {
       kind = kindOf case (r .method);
-      status = statusOf case;
+      status = ruleOf case .1;
       cseq = r .cseq;
       session = s .number;
       stream = s .stream;

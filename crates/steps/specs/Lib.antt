@@ -4,3 +4,4 @@ pub mod Sights
 pub mod Steps
 pub mod Replies
 pub mod Handed
+pub mod Tests

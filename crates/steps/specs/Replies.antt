@@ -12,7 +12,7 @@ use Rattle.aim.specs.declared.Method.the-variants.{Options, Setup, Play, Teardo
 use Rattle.reader.specs.Request.{methodOf, uriOf, cseqOf}
 use Rattle.table.specs.declared.Session.{Session}
 use Rattle.answer.specs.Lines.{sessionLine, publicLine, setupLines, playLines, refusedLines, answerLines}
-use Rattle.steps.specs.Cases.{stepOf, statusOf, isPassed}
+use Rattle.steps.specs.Cases.{ruleOf, isPassed}
 use Rattle.steps.specs.declared.cases.Case.{Case}
 
 -- "on 200", of the session that the answer is about; 0 is none
@@ -25,5 +25,5 @@ grantedLines Other host s = []
 
 unfoldable pub replyText : Case → List ℕ → Session → List ℕ
 replyText case s session =
-    answerLines (statusOf case) (cseqOf s)
-    (cond (isPassed case) (grantedLines (methodOf s) (hostOf (uriOf s)) session) (refusedLines (stepOf case) (firstValue (valuesOf 3 (headerLines s)))))
+    answerLines (ruleOf case .1) (cseqOf s)
+    (cond (isPassed case) (grantedLines (methodOf s) (hostOf (uriOf s)) session) (refusedLines (ruleOf case .0) (firstValue (valuesOf 3 (headerLines s)))))

@@ -7,8 +7,8 @@ use Rattle.reader.specs.declared.fields.Session.{Session as Sent}
 use Rattle.reader.specs.declared.fields.Session.the-variants.{Absent, Malformed, Named}
 use Rattle.reader.specs.declared.fields.Transport.{Transport}
 use Rattle.reader.specs.declared.fields.Transport.the-variants.{Other, Port}
-use Rattle.table.specs.Table.{sessionAt, streamOf}
-use Rattle.finding.specs.Finding.{placeOf}
+use Rattle.table.specs.Table.{hasNumber, sessionAt, streamOf}
+use Rattle.scan.specs.Lists.{first}
 use Rattle.table.specs.declared.SatBox.{SatBox}
 use Rattle.steps.specs.Asked.{Asked}
 use Rattle.steps.specs.declared.Sight.{Sight}
@@ -26,7 +26,7 @@ sessionNumber (Named n) = n
 
 -- the place of the open session that it names; 32 where there is none
 abbrev pub placeNamed : Sent → SatBox → ℕ
-placeNamed sent t = cond (eqb (sessionNumber sent) 0) 32 (placeOf (sessionNumber sent) (t .sessions))
+placeNamed sent t = cond (eqb (sessionNumber sent) 0) 32 (first (hasNumber (sessionNumber sent)) (t .sessions))
 
 -- the first of the two ports; 0 where the Transport is not of its form
 abbrev pub portOf : Transport → ℕ

@@ -22,34 +22,19 @@ looksUp m = isSetup m || needsSession m
 abbrev pub isNamed : Sight → Bool
 isNamed v = ltb (v .place) 32
 
--- 11: "Session .. is not 8 hex digits of either case naming an open session; or is absent in PLAY or TEARDOWN"
-unfoldable pub lacksSession : Sight → Bool
-lacksSession v = not (isNamed v) && (not (v .absent) || needsSession (v .method))
-
--- 12: "SETUP, PLAY or TEARDOWN names a stream not live"; "OPTIONS does not look it up"
-unfoldable pub namesDead : Sight → Bool
-namesDead v = looksUp (v .method) && (not (eqb (v .stream) 0) && eqb (v .frontend) 0)
-
 abbrev pub isElsewhere : Sight → Bool
 isElsewhere v = not (eqb (v .stream) (v .session .stream)) || (not (eqb (v .fe) 0) && not (eqb (v .fe) (v .frontend)))
 
--- 13: "With a session, not OPTIONS: the stream is not that session's, SETUP names no stream, SETUP while that session plays, or fe differs .."
-unfoldable pub isOutOfState : Sight → Bool
-isOutOfState v = (isNamed v && looksUp (v .method)) && (isElsewhere v || (isSetup (v .method) && (eqb (v .stream) 0 || not (eqb (v .session .playing) 0))))
-
--- 14: "A query on a live stream by anyone but its owner's session"
-unfoldable pub isAnothers : Sight → Bool
-isAnothers v = v .query && (not (eqb (v .stream) 0) && not (owns (v .stream) (v .session)))
-
--- 15: "SETUP whose Transport is not exactly .., or is absent"
-unfoldable pub lacksPort : Sight → Bool
-lacksPort v = isSetup (v .method) && eqb (v .port) 0
-
 unfoldable pub tableCase : Sight → Case
 tableCase v =
-    lacksSession v gives NoSession or
-    namesDead v gives NotLive or
-    isOutOfState v gives State or
-    isAnothers v gives NotOwner or
-    lacksPort v gives Transport or
+    -- 11: "Session .. is not 8 hex digits of either case naming an open session; or is absent in PLAY or TEARDOWN"
+    (not (isNamed v) && (not (v .absent) || needsSession (v .method))) gives NoSession or
+    -- 12: "SETUP, PLAY or TEARDOWN names a stream not live"; "OPTIONS does not look it up"
+    (looksUp (v .method) && (not (eqb (v .stream) 0) && eqb (v .frontend) 0)) gives NotLive or
+    -- 13: "With a session, not OPTIONS: the stream is not that session's, SETUP names no stream, SETUP while that session plays, or fe differs .."
+    ((isNamed v && looksUp (v .method)) && (isElsewhere v || (isSetup (v .method) && (eqb (v .stream) 0 || not (eqb (v .session .playing) 0))))) gives State or
+    -- 14: "A query on a live stream by anyone but its owner's session"
+    (v .query && (not (eqb (v .stream) 0) && not (owns (v .stream) (v .session)))) gives NotOwner or
+    -- 15: "SETUP whose Transport is not exactly .., or is absent"
+    (isSetup (v .method) && eqb (v .port) 0) gives Transport or
     Passed

@@ -1,6 +1,6 @@
 // Why a request is refused, over all of document 01's steps: each case with its step and its status.
 ghost use mathlib.Core.Path.{_≡_};
-ghost use Rattle.steps.specs.Cases.{stepOf, statusOf, isPassed};
+ghost use Rattle.steps.specs.Cases.{ruleOf, isPassed};
 use refusals::Refusal;
 
 pub enum Case {
@@ -22,7 +22,7 @@ pub enum Case {
 
 // Document 01's step, 0 where nothing refuses.
 fn step(case: Case) -> u8
-    ensures { λ r. ⌜ r ≡ stepOf case ⌝ }
+    ensures { λ r. ⌜ r ≡ ruleOf case .0 ⌝ }
 {
     match case {
         Case::Passed => 0,
@@ -40,7 +40,7 @@ fn step(case: Case) -> u8
 
 // The status that answers it, 200 where nothing refuses.
 pub(crate) fn status(case: Case) -> u16
-    ensures { λ r. ⌜ r ≡ statusOf case ⌝ }
+    ensures { λ r. ⌜ r ≡ ruleOf case .1 ⌝ }
 {
     match case {
         Case::Passed => 200,

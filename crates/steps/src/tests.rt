@@ -1,6 +1,7 @@
 // The test of each of steps 11 to 15.
 ghost use mathlib.Core.Path.{_≡_};
-ghost use Rattle.steps.specs.Steps.{isSetup, needsSession, looksUp, lacksSession, namesDead, isElsewhere, isOutOfState, isAnothers, lacksPort};
+ghost use Rattle.steps.specs.Steps.{isSetup, needsSession, looksUp, isElsewhere};
+ghost use Rattle.steps.specs.Tests.{lacksSession, namesDead, isOutOfState, isAnothers, lacksPort};
 use crate::Sight;
 use aim::Method;
 use table::SatBox;

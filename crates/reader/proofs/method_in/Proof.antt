@@ -13,8 +13,7 @@ use Rattle.scan.specs.Found.{isWord}
 use Rattle.scan.specs.declared.Case.the-variants.{Counts}
 use Rattle.scan.proofs.Places.{None, miss, none, place-alike, place-none}
 use Rattle.aim.specs.declared.Method.the-variants.{Other}
-use Rattle.reader.specs.Request.{methodIn}
-use Rattle.reader.specs.Heads.{methodAt}
+use Rattle.reader.specs.Heads.{methodIn, methodAt}
 use Rattle.reader.proofs.method_in.Statement.{statement}
 use Rattle.reader.proofs.method_in.Tie as tie
 
@@ -22,11 +21,9 @@ abbrev methods : List ℕ
 methods = text "OPTIONS SETUP PLAY TEARDOWN"
 
 method-alike : (w m : List ℕ) {t : Bool} → t ≡ areAlike Counts w m → t ≡ true → methodAt (first (isWord Counts w) (cut 32 methods)) ≡ methodIn m
-unfolding methodIn
 method-alike w m a y = ap methodAt (place-alike Counts methods w m a y)
 
 method-none : (m : List ℕ) → None Counts m (cut 32 methods) → Other ≡ methodIn m
-unfolding methodIn
 method-none m n = ap methodAt (place-none Counts methods n)
 
 pub method-in-spec : {M : Type 1} → statement M

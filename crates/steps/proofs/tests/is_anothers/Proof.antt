@@ -1,11 +1,10 @@
 -- `steps::tests::is_anothers` meets its contract. Assumes nothing.
 use borrow.Author.Needs.{needs}
-use Rattle.steps.specs.Steps.{isAnothers}
+use Rattle.steps.specs.Tests.{isAnothers}
 use Rattle.steps.proofs.tests.is_anothers.Statement.{statement}
 use Rattle.steps.proofs.tests.is_anothers.Tie as tie
 
 returns : tie.Need-returns
-unfolding isAnothers
 returns c = rw (c .before .owns .ensures)
 
 pub is-anothers-spec : {M : Type 1} → statement M

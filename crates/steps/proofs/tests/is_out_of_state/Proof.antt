@@ -1,11 +1,10 @@
 -- `steps::tests::is_out_of_state` meets its contract. Assumes nothing.
 use borrow.Author.Needs.{needs}
-use Rattle.steps.specs.Steps.{isOutOfState}
+use Rattle.steps.specs.Tests.{isOutOfState}
 use Rattle.steps.proofs.tests.is_out_of_state.Statement.{statement}
 use Rattle.steps.proofs.tests.is_out_of_state.Tie as tie
 
 returns : tie.Need-returns
-unfolding isOutOfState
 returns c =
     let s = c .before .before in
     rw (s .is-setup .ensures, s .before .is-elsewhere .ensures, s .before .before .looks-up .ensures)

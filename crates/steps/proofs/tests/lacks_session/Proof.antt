@@ -1,11 +1,10 @@
 -- `steps::tests::lacks_session` meets its contract. Assumes nothing.
 use borrow.Author.Needs.{needs}
-use Rattle.steps.specs.Steps.{lacksSession}
+use Rattle.steps.specs.Tests.{lacksSession}
 use Rattle.steps.proofs.tests.lacks_session.Statement.{statement}
 use Rattle.steps.proofs.tests.lacks_session.Tie as tie
 
 returns : tie.Need-returns
-unfolding lacksSession
 returns c = rw (c .needs-session .ensures)
 
 pub lacks-session-spec : {M : Type 1} → statement M
