@@ -7,7 +7,7 @@ use native.Mathlib.Omega.{arith}
 use Rattle.scan.proofs.Bools.{Case, case, is, isnt}
 use Rattle.stream.specs.declared.Stream.{Stream}
 use Rattle.table.specs.Counts.{isAmong}
-use Rattle.table.specs.Formed.{frontendsOf}
+use Rattle.table.proofs.Rules.{frontendsOf}
 use Rattle.finding.specs.Finding.{firstFree, isHeld, lowestFrontend}
 
 -- the lowest of the `more` frontends after n that is not held; the one after them where all are

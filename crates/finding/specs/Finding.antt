@@ -1,13 +1,12 @@
 -- Document 01, "An opening takes the lowest free place": what is free in a table, and the number that is drawn. Assumes nothing.
 use Prim.Native.Nat.{ℕ, zero, suc, _+_, _%_}
 use mathlib.Core.Bool.{Bool, cond, _||_}
-use mathlib.Core.List.{List}
+use mathlib.Core.List.{List, map}
 use lib.Dec.{eqb}
 use Rattle.scan.specs.Lists.{first}
 use Rattle.stream.specs.declared.Stream.{Stream}
 use Rattle.table.specs.Counts.{any, isAmong}
 use Rattle.table.specs.Table.{hasNumber, isFree, isDead}
-use Rattle.table.specs.Formed.{frontendsOf}
 use Rattle.table.specs.declared.Session.{Session}
 
 -- "the lowest free place"; 32 where none is free
@@ -20,7 +19,7 @@ lowestId ms = suc (first isDead ms)
 
 -- a frontend is held by a stream
 abbrev pub isHeld : ℕ → List Stream → Bool
-isHeld f ms = isAmong f (frontendsOf ms)
+isHeld f ms = isAmong f (map (λ m. m .frontend) ms)
 
 -- the first number from n on, going by `next`, that is not taken; the one after `more` of them where all these are
 abbrev pub firstFree : (ℕ → Bool) → (ℕ → ℕ) → ℕ → ℕ → ℕ

@@ -2,7 +2,8 @@
 ghost use mathlib.Core.Path.{_≡_};
 ghost use Prim.Native.Nat.{_≤_};
 ghost use Rattle.scan.specs.Found.{FirstOf};
-ghost use Rattle.table.specs.Formed.{frontendsOf};
+ghost use mathlib.Core.List.{map};
+ghost use Rattle.stream.specs.declared.Stream.{Stream};
 ghost use Rattle.table.specs.Table.{hasNumber, isFree, isDead, openCount, owns};
 ghost use Rattle.finding.specs.Finding.{lowestId, isHeld, lowestFrontend, drawn};
 use table::SatBox;
@@ -59,7 +60,7 @@ pub fn owns(s: Session, id: u32) -> bool
 
 // The frontend at each stream's place.
 fn frontends_of(t: SatBox) -> [u32; 8]
-    ensures { λ r. ⌜ r ≡ frontendsOf (t .streams) ⌝ }
+    ensures { λ r. ⌜ r ≡ map (λ (m : Stream). m .frontend) (t .streams) ⌝ }
 {
     let mut frontends = [0u32; 8];
     let mut k = 0;

@@ -20,12 +20,12 @@ use Rattle.stream.specs.declared.Stream.{Stream}
 use Rattle.table.specs.Counts.{count, isAmong, areDistinct}
 use Rattle.table.proofs.Counts.{bit, bit-no, bit-yes, count-none, none-count, count-map, count-distinct, is-number}
 use Rattle.table.specs.Table.{noSession, hasNumber, isOpen, openCount, sessionAt, streamOf, isDead, owns}
-use Rattle.table.specs.Formed.{areSizes, numbersOf, isHoused, areOwned, isSeated, isProper, wellFormed}
+use Rattle.table.specs.Formed.{areSizes, areOwned, isSeated, wellFormed}
+use Rattle.table.proofs.Rules.{numbersOf, isHoused, isProper, WellFormed, formed, one-step}
 use Rattle.table.specs.declared.Session.{Session}
 use Rattle.table.specs.declared.SatBox.{SatBox}
 use Rattle.table.proofs.Places.{failed, held, Counting, counting-start, counting-by, counting-end}
 use Rattle.table.proofs.NumberLaws.{Gathered, gathered-start, gathered-more, gathered-end}
-use Rattle.table.proofs.Rules.{WellFormed, formed, one-step}
 use Rattle.table.proofs.Changes.{seated-live}
 use Rattle.table.proofs.Ids.{stream-none, stream-past, stream-at}
 

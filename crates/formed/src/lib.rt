@@ -1,13 +1,13 @@
 // Whether a table is well formed: the rules of document 01 in one walk over the sessions and one over the streams. It runs on every call,
 // so that the table is handed on to nobody: a leaf looks at one place, or at numbers.
 ghost use mathlib.Core.Path.{_≡_};
-ghost use mathlib.Core.Bool.{_&&_, _||_};
+ghost use mathlib.Core.Bool.{cond, _&&_, _||_};
 ghost use Prim.Native.Nat.{_+_, _*_, _%_, _≤_};
 ghost use lib.Dec.{eqb, leb};
 ghost use Rattle.scan.specs.Classes.{isBetween};
 ghost use Rattle.stream.specs.Streams.{isSound};
-ghost use Rattle.table.specs.Table.{isDead};
-ghost use Rattle.table.specs.Formed.{isSeated, isBlank, isProper, wellFormed};
+ghost use Rattle.table.specs.Table.{isFree, isDead};
+ghost use Rattle.table.specs.Formed.{isSeated, isBlank, wellFormed};
 use stream::Stream;
 use table::SatBox;
 use table::Session;
@@ -35,7 +35,7 @@ fn is_seated(s: Session, clock: u32) -> bool
 }
 
 fn is_proper(s: Session, clock: u32) -> bool
-    ensures { λ r. ⌜ r ≡ isProper clock s ⌝ }
+    ensures { λ r. ⌜ r ≡ cond (isFree s) (isBlank s) (isSeated clock s) ⌝ }
 {
     if s.number == 0 {
         return is_empty(s);

@@ -20,7 +20,8 @@ use Rattle.stream.specs.declared.Change.{Change}
 use Rattle.stream.proofs.Soundness.{blank-sound}
 use Rattle.stream.proofs.Keeping.{merge-sound}
 use Rattle.table.specs.Table.{noSession, isOpen, sessionAt, streamOf}
-use Rattle.table.specs.Formed.{isProper, isSeated}
+use Rattle.table.specs.Formed.{isSeated}
+use Rattle.table.proofs.Rules.{isProper}
 use Rattle.table.specs.declared.Session.{Session}
 use Rattle.table.specs.declared.SatBox.{SatBox}
 use Rattle.table.proofs.Counts.{count-set-same}

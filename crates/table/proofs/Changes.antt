@@ -17,9 +17,9 @@ use Rattle.table.specs.Counts.{count}
 use Rattle.table.proofs.Counts.{bit, bit-no, bit-yes, count-le, count-set, count-zero-at, count-set-le, count-set-same, cleared, count-cleared-le, count-cleared-same, count-cleared-none, all-cleared, once-set, getD-set-all, getD-set-alike, getD-set-here}
 use Rattle.table.specs.Table.{noSession, hasNumber, isFree, isOpen, withStream, isOn, owns}
 use Rattle.table.proofs.Ids.{streamIn}
-use Rattle.table.specs.Formed.{isProper, isSeated, isBlank}
+use Rattle.table.specs.Formed.{isSeated, isBlank}
+use Rattle.table.proofs.Rules.{isProper, fed, Seats, Rows, AreProper, past-sound}
 use Rattle.table.specs.declared.Session.{Session}
-use Rattle.table.proofs.Rules.{fed, Seats, Rows, AreProper, past-sound}
 
 -- a session on the stream of an ID, made none
 abbrev pub clear : ℕ → Session → Session

@@ -1,8 +1,8 @@
 -- The rules of a well-formed table as counts over its two lists, from the test that computes them and back. A rule that is a count is kept
 -- by a change in one line. Assumes nothing.
 use mathlib.Core.Path.{_≡_, refl, sym, _∙_, ap}
-use mathlib.Core.Bool.{Bool, true, false, _||_}
-use mathlib.Core.List.{List, [], _∷_}
+use mathlib.Core.Bool.{Bool, true, false, cond, _||_}
+use mathlib.Core.List.{List, [], _∷_, map}
 use Prim.Native.Nat.{ℕ, zero, suc, _+_, _*_, _%_, _≤_}
 use native.Mathlib.Omega.{arith}
 use lib.Dec.{eqb}
@@ -14,11 +14,24 @@ use Rattle.stream.specs.Values.{areNone}
 use Rattle.stream.specs.Streams.{pastStream, isSound, areZero}
 use Rattle.stream.specs.declared.Stream.{Stream}
 use Rattle.table.specs.Counts.{count, areDistinct}
-use Rattle.table.specs.Table.{noSession, hasNumber, isFree, openCount, streamOf, isDead, isOn, owns}
-use Rattle.table.specs.Formed.{areSizes, numbersOf, isHoused, areOwned, frontendsOf, isProper, isBlank, fits, wellFormed}
+use Rattle.table.specs.Table.{noSession, hasNumber, isFree, openCount, streamOf, isDead, isLive, isOn, owns}
+use Rattle.table.specs.Formed.{areSizes, areOwned, isSeated, isBlank, wellFormed}
 use Rattle.table.specs.declared.Session.{Session}
 use Rattle.table.specs.declared.SatBox.{SatBox}
 use Rattle.table.proofs.Counts.{all-at, at-all, all-count, count-map, count-zero-at, distinct-count, count-distinct, is-number}
+
+-- the rules by names
+abbrev pub numbersOf : List Session → List ℕ
+numbersOf l = map (λ s. s .number) l
+
+abbrev pub frontendsOf : List Stream → List ℕ
+frontendsOf ms = map (λ m. m .frontend) ms
+
+abbrev pub isHoused : SatBox → Session → Bool
+isHoused t s = isFree s || isLive (streamOf t (s .stream))
+
+abbrev pub isProper : ℕ → Session → Bool
+isProper clock s = cond (isFree s) (isBlank s) (isSeated clock s)
 
 -- a stream has a frontend
 abbrev pub fed : ℕ → Stream → Bool

@@ -1,4 +1,4 @@
--- Document 01, "Refusals of a call": when a table is well formed. One definition for each of its rules, in its order. Assumes nothing.
+-- Document 01, "Refusals of a call": when a table is well formed. Assumes nothing.
 use Prim.Native.Nat.{ℕ, suc, _+_, _*_, _%_}
 use mathlib.Core.Bool.{Bool, true, cond, _&&_, _||_}
 use mathlib.Core.List.{List, [], _∷_, map}
@@ -18,22 +18,10 @@ use Rattle.table.specs.declared.SatBox.{SatBox}
 abbrev pub areSizes : Settings → Bool
 areSizes s = isBetween 1 8 (s .frontends) && (isBetween 1024 65536 (s .size) && eqb (s .size % recordSize) 0)
 
--- "open session numbers non-zero and distinct": a place whose number is zero is not open
-abbrev pub numbersOf : List Session → List ℕ
-numbersOf l = map (λ s. s .number) l
-
--- "each open session belongs to a live stream"
-abbrev pub isHoused : SatBox → Session → Bool
-isHoused t s = isFree s || isLive (streamOf t (s .stream))
-
 -- "each live stream has exactly one open owner"; the streams' IDs count on from the first's
 abbrev pub areOwned : List Session → ℕ → List Stream → Bool
 areOwned l id [] = true
 areOwned l id (m ∷ ms) = (isDead m || eqb (count (owns id) l) 1) && areOwned l (suc id) ms
-
--- "no two streams share a frontend"
-abbrev pub frontendsOf : List Stream → List ℕ
-frontendsOf ms = map (λ m. m .frontend) ms
 
 -- of a session, "every value in range", its port and flags among them, and "no session's last time is past the clock"
 unfoldable pub isSeated : ℕ → Session → Bool
@@ -43,21 +31,18 @@ isSeated clock s = isBetween 1024 65534 (s .port) && eqb (s .port % 2) 0 && leb 
 unfoldable pub isBlank : Session → Bool
 isBlank s = eqb (s .address) 0 && eqb (s .last) 0 && eqb (s .port) 0 && eqb (s .stream) 0 && eqb (s .owner) 0 && eqb (s .playing) 0
 
-abbrev pub isProper : ℕ → Session → Bool
-isProper clock s = cond (isFree s) (isBlank s) (isSeated clock s)
-
--- "bytes held a multiple of 16; bytes held plus 16 per open session at most C"
-abbrev pub fits : SatBox → Bool
-fits t = eqb (t .held % recordSize) 0 && leb (t .held + recordSize * openCount t) (t .settings .size)
-
--- all of them; a stream's own rules are `isSound`
+-- all of them, in document 01's order; a stream's own rules are `isSound`
 unfoldable pub wellFormed : SatBox → Bool
 wellFormed t =
     areSizes (t .settings)
-    && (areDistinct (numbersOf (t .sessions))
-    && (all (isHoused t) (t .sessions)
+    -- "open session numbers non-zero and distinct": a place whose number is zero is not open
+    && (areDistinct (map (λ s. s .number) (t .sessions))
+    -- "each open session belongs to a live stream"
+    && (all (λ s. isFree s || isLive (streamOf t (s .stream))) (t .sessions)
     && (areOwned (t .sessions) 1 (t .streams)
-    && (areDistinct (frontendsOf (t .streams))
+    -- "no two streams share a frontend"
+    && (areDistinct (map (λ m. m .frontend) (t .streams))
     && (all (isSound (t .settings .frontends)) (t .streams)
-    && (all (isProper (t .clock)) (t .sessions)
-    && fits t))))))
+    && (all (λ s. cond (isFree s) (isBlank s) (isSeated (t .clock) s)) (t .sessions)
+    -- "bytes held a multiple of 16; bytes held plus 16 per open session at most C"
+    && (eqb (t .held % recordSize) 0 && leb (t .held + recordSize * openCount t) (t .settings .size))))))))
