@@ -15,8 +15,8 @@ use Rattle.digits.specs.declared.Read.{Read}
 use Rattle.digits.specs.declared.Read.the-variants.{Value, Nothing}
 use Rattle.digits.proofs.Limits.{Is-read}
 use Rattle.writing.proofs.Numerals.{decimal-length, hex8-length, dotted-length}
-use Rattle.answer.specs.Lines.{reasonOf, line, cseqLine, sessionLine, publicLine, transportLine, setupLines, playLines, refusedLines}
-use Rattle.answer.specs.Answers.{numbered, optionsLines, linesBy, linesOf, answerWith}
+use Rattle.answer.specs.Lines.{reasonOf, line, cseqLine, sessionLine, publicLine, transportLine, refusedLines}
+use Rattle.answer.specs.Answers.{setupLines, playLines, numbered, optionsLines, linesBy, linesOf, answerWith}
 use Rattle.answer.specs.declared.Kind.{Kind}
 use Rattle.answer.specs.declared.Kind.the-variants.{Bare, Allow, Public, Unsupported, Options, Setup, Play, Teardown}
 use Rattle.answer.specs.declared.Answer.{Answer}

@@ -9,10 +9,18 @@ use Rattle.scan.specs.Text.{text, _&_}
 use Rattle.scan.specs.Lists.{part}
 use Rattle.scan.specs.declared.Span.{Span}
 use Rattle.writing.specs.Writing.{decimal}
-use Rattle.answer.specs.Lines.{reasonOf, sessionLine, publicLine, setupLines, playLines, refusedLines, answerLines}
+use Rattle.answer.specs.Lines.{reasonOf, sessionLine, publicLine, refusedLines, answerLines, line, transportLine}
 use Rattle.answer.specs.declared.Kind.{Kind}
 use Rattle.answer.specs.declared.Kind.the-variants.{Bare, Allow, Public, Unsupported, Options, Setup, Play, Teardown}
 use Rattle.answer.specs.declared.Answer.{Answer}
+
+-- the lines of a SETUP and of a PLAY, by numbers
+abbrev pub setupLines : ℕ → ℕ → ℕ → ℕ → List ℕ
+setupLines session address port stream =
+    sessionLine session (text ";timeout=60\r\n") & transportLine address port & line "com.ses.streamID: " (decimal stream)
+
+abbrev pub playLines : ℕ → List ℕ → ℕ → List ℕ
+playLines session host stream = sessionLine session (text "\r\n") & text "RTP-Info: url=rtsp://" & host & line "/stream=" (decimal stream)
 
 -- the reason of a status from a number on; none of those below it
 abbrev pub reasonFrom : ℕ → ℕ → List ℕ

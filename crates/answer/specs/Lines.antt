@@ -47,13 +47,6 @@ abbrev pub transportLine : ℕ → ℕ → List ℕ
 transportLine address port =
     text "Transport: RTP/AVP;unicast;destination=" & dotted address & text ";client_port=" & decimal port & line "-" (decimal ((port + 1) % 4294967296))
 
-abbrev pub setupLines : ℕ → ℕ → ℕ → ℕ → List ℕ
-setupLines session address port stream =
-    sessionLine session (text ";timeout=60\r\n") & transportLine address port & line "com.ses.streamID: " (decimal stream)
-
-abbrev pub playLines : ℕ → List ℕ → ℕ → List ℕ
-playLines session host stream = sessionLine session (text "\r\n") & text "RTP-Info: url=rtsp://" & host & line "/stream=" (decimal stream)
-
 -- by the step that refuses: "551 with `Unsupported: ` and its value"; "501 with Public"; "405 with `Allow: OPTIONS`"
 abbrev pub refusedLines : ℕ → List ℕ → List ℕ
 refusedLines step value =

@@ -3,8 +3,7 @@
 mod puts;
 
 ghost use Rattle.writing.specs.Wrote.{Wrote};
-ghost use Rattle.answer.specs.Lines.{setupLines, playLines};
-ghost use Rattle.answer.specs.Answers.{textAt, optionsLines, linesOf, answerText};
+ghost use Rattle.answer.specs.Answers.{setupLines, playLines, textAt, optionsLines, linesOf, answerText};
 use digits::Read;
 use puts::put_allow;
 use puts::put_cseq;

@@ -1,7 +1,7 @@
 -- The number that is drawn: the draw ends, since each number that it passes is taken, so that fewer taken numbers are ahead of it; and what
 -- it gives is not taken. Assumes nothing.
 use mathlib.Core.Path.{_≡_, refl, sym, subst}
-use mathlib.Core.Bool.{Bool, true, false, or-true}
+use mathlib.Core.Bool.{Bool, true, false, _||_, or-true}
 use mathlib.Core.List.{List, [], _∷_}
 use Prim.Native.Nat.{ℕ, zero, suc, _+_, _-_, _%_, _≤_, _<_}
 use native.Mathlib.Omega.{arith}
@@ -12,8 +12,15 @@ use Rattle.scan.proofs.Bools.{never, Case, case, is, isnt, Same, sames, same, o
 use Rattle.table.specs.Counts.{count, any}
 use Rattle.table.proofs.Counts.{bit, count-le, count-length}
 use Rattle.table.specs.Table.{noSession, hasNumber}
-use Rattle.finding.specs.Finding.{firstFree, isTaken, nextNumber, drawn}
+use Rattle.finding.specs.Finding.{firstFree, drawn}
 use Rattle.table.specs.declared.Session.{Session}
+
+-- a number is taken by the 0 or by an open session; the one after it; and the first of so many that is not taken
+abbrev pub isTaken : List Session → ℕ → Bool
+isTaken l n = eqb n 0 || any (hasNumber n) l
+
+abbrev pub nextNumber : ℕ → ℕ
+nextNumber n = (n + 1) % 4294967296
 
 abbrev pub drawnFrom : ℕ → List Session → ℕ → ℕ
 drawnFrom more l n = firstFree (isTaken l) nextNumber more n

@@ -30,14 +30,7 @@ firstFree taken next (suc more) n = cond (taken n) (firstFree taken next more (n
 unfoldable pub lowestFrontend : ℕ → List Stream → ℕ
 lowestFrontend frontends ms = firstFree (λ f. isHeld f ms) suc frontends 1
 
--- "the first non-zero number not open": 0 and the open numbers are taken
-abbrev pub isTaken : List Session → ℕ → Bool
-isTaken l n = eqb n 0 || any (hasNumber n) l
-
--- "counting up"; "after 4294967295 comes 0"
-abbrev pub nextNumber : ℕ → ℕ
-nextNumber n = (n + 1) % 4294967296
-
--- "counting up from the draw": 32 sessions and the 0 can take 33 numbers, so that one of 34 is not taken
+-- "the first non-zero number not open, counting up from the draw; after 4294967295 comes 0": 32 sessions and the 0 can take 33 numbers, so that one
+-- of 34 is not taken
 unfoldable pub drawn : List Session → ℕ → ℕ
-drawn l draw = firstFree (isTaken l) nextNumber 34 draw
+drawn l draw = firstFree (λ n. eqb n 0 || any (hasNumber n) l) (λ n. (n + 1) % 4294967296) 34 draw

@@ -10,8 +10,8 @@ use Rattle.scan.proofs.Bools.{and-both, both, cond-keeps}
 use Rattle.journal.specs.declared.Record.{Record}
 use Rattle.stream.specs.declared.Stream.{Stream}
 use Rattle.table.specs.Table.{noSession, sessionAt}
-use Rattle.finding.specs.Finding.{lowestPlace, lowestId, isTaken, nextNumber, drawn}
-use Rattle.finding.proofs.Draws.{drawnFrom}
+use Rattle.finding.specs.Finding.{lowestPlace, lowestId, drawn}
+use Rattle.finding.proofs.Draws.{isTaken, nextNumber, drawnFrom}
 use Rattle.table.specs.declared.Session.{Session}
 use Rattle.table.specs.declared.SatBox.{SatBox}
 use Rattle.table.proofs.Counts.{getD-set-all}

@@ -20,8 +20,8 @@ use Rattle.refusals.specs.declared.Refusal.the-variants.{Passed}
 use Rattle.reader.specs.Request.{uriOf, requestRefusal}
 use Rattle.table.specs.Counts.{any}
 use Rattle.table.specs.Table.{hasNumber}
-use Rattle.finding.specs.Finding.{isTaken, nextNumber, drawn}
-use Rattle.finding.proofs.Draws.{drawnFrom}
+use Rattle.finding.specs.Finding.{drawn}
+use Rattle.finding.proofs.Draws.{isTaken, nextNumber, drawnFrom}
 use Rattle.table.specs.declared.Session.{Session}
 use Rattle.table.specs.declared.SatBox.{SatBox}
 use Rattle.steps.specs.Asked.{Asked, Lists, codesIn, askedOf, listsOf}

@@ -32,7 +32,8 @@ use Rattle.steps.specs.Steps.{looksUp, isNamed}
 use Rattle.closings.specs.Did.{restreamed, reseated, noting}
 use Rattle.closings.specs.Closing.{closeOne, closing}
 use Rattle.serving.specs.Opening.{hasPlace, seatingAs, joining, canOpen, opening}
-use Rattle.serving.specs.Serving.{merging, takesQuery, merges, withSession, seatAfter, retuned, Serving, grant, clientOf, answered}
+use Rattle.serving.specs.Serving.{merging, merges, withSession, seatAfter, retuned, Serving, grant, clientOf, answered}
+use Rattle.serving.specs.Turns.{takesQuery}
 use Rattle.serving.specs.declared.opening.Client.{Client}
 use Rattle.closings.proofs.Closings.{closing-fine}
 use Rattle.closings.proofs.Keeping.{Whole, live-id, owner-sessions, owner-streams}

@@ -43,12 +43,9 @@ unmerged t a = cond (eqb (a .stream) 0) (blank (feedOf t (getD (a .codes) 1 0)))
 unfoldable pub merging : SatBox → Asked → Lists → Change
 merging t a l = mergeOf (unmerged t a) (a .codes) (l .pids) (l .delpids) (l .addpids)
 
-abbrev pub takesQuery : Method → Bool
-takesQuery m = eqb (methodNumber m) 1 || eqb (methodNumber m) 2
-
--- whose query is merged: a new stream's, and "the owner's"; "SETUP on a live stream without Session joins it, never owning it"
+-- whose query is merged, by SETUP or PLAY: a new stream's, and "the owner's"; "SETUP on a live stream without Session joins it, never owning it"
 abbrev pub merges : Sight → Bool
-merges v = takesQuery (v .method) && (eqb (v .stream) 0 || owns (v .stream) (v .session))
+merges v = (eqb (methodNumber (v .method)) 1 || eqb (methodNumber (v .method)) 2) && (eqb (v .stream) 0 || owns (v .stream) (v .session))
 
 -- 16: "Combination rule broken"; 17: "More than 32 PIDs after merging"
 abbrev pub mergeCase : Outcome → Case

@@ -2,11 +2,12 @@
 -- nothing.
 use Prim.Native.Nat.{ℕ, _+_, _≤_, _<_}
 use mathlib.Core.Path.{_≡_}
-use mathlib.Core.Bool.{Bool, true, false, not, cond, _&&_}
+use mathlib.Core.Bool.{Bool, true, false, not, cond, _&&_, _||_}
 use mathlib.Core.List.{List}
 use lib.Dec.{eqb, ltb}
 use lib.ListN.{length, getD}
 use Rattle.refusals.specs.Refusals as reading
+use Rattle.aim.specs.Aim.{methodNumber}
 use Rattle.aim.specs.declared.Method.{Method}
 use Rattle.aim.specs.declared.Method.the-variants.{Options, Setup, Play, Teardown, Other}
 use Rattle.refusals.specs.declared.Refusal.{Refusal}
@@ -34,7 +35,7 @@ use Rattle.closings.specs.Did.{Did, nothing, restreamed, noting}
 use Rattle.closings.specs.Does.{Closable}
 use Rattle.closings.specs.Closing.{closing}
 use Rattle.serving.specs.Opening.{hasPlace, hasRoom, guest, canOpen}
-use Rattle.serving.specs.Serving.{Serving, feedOf, merging, takesQuery, merges, mergeCase, isOpening, canSeat, withSession, refreshed, seatAfter}
+use Rattle.serving.specs.Serving.{Serving, feedOf, merging, merges, mergeCase, isOpening, canSeat, withSession, refreshed, seatAfter}
 use Rattle.serving.specs.declared.opening.Client.{Client}
 use Rattle.serving.specs.declared.opening.Offer.{Offer}
 use Rattle.serving.specs.declared.Turn.{Turn}
@@ -47,6 +48,9 @@ changeCase t a l =
     (merges (sightOf t a) && not (isPassed (mergeCase (merging t a l .outcome)))) gives mergeCase (merging t a l .outcome) or
     (isOpening (sightOf t a) && not (canSeat t (sightOf t a))) gives Full or
     Passed
+
+abbrev pub takesQuery : Method → Bool
+takesQuery m = eqb (methodNumber m) 1 || eqb (methodNumber m) 2
 
 -- a session at another port, and playing
 abbrev pub atPort : ℕ → Session → Session

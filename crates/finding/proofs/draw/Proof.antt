@@ -8,10 +8,9 @@ use native.Mathlib.Omega.{arith}
 use lib.ListN.{length}
 use borrow.Author.Tests.{eq-eqb, ne-eqb}
 use Rattle.table.specs.Table.{noSession, hasNumber}
-use Rattle.finding.specs.Finding.{isTaken}
+use Rattle.finding.proofs.Draws.{isTaken, Drawing, toPass, drawing-start, drawing-less, drawing-more, drawing-end, taken-zero, taken-open, taken-not}
 use Rattle.table.proofs.Places.{known}
 use Rattle.table.proofs.NumberLaws.{Lacking, lacking-start, lacking-more, lacking-hit, lacking-end}
-use Rattle.finding.proofs.Draws.{Drawing, toPass, drawing-start, drawing-less, drawing-more, drawing-end, taken-zero, taken-open, taken-not}
 use Rattle.finding.proofs.draw.Statement.{statement}
 use Rattle.finding.proofs.draw.Tie as tie
 
