@@ -4,7 +4,6 @@ use Prim.Native.Nat.{ℕ}
 use mathlib.Core.Bool.{Bool, cond, _&&_}
 use mathlib.Core.List.{List, [], _∷_}
 use lib.Dec.{eqb}
-use lib.ListN.{getD}
 use Rattle.scan.specs.Text.{text}
 use Rattle.scan.specs.Classes.{areNameBytes}
 use Rattle.scan.specs.Trim.{trim}
@@ -19,10 +18,7 @@ isHeader line = has 58 line && areNameBytes (before 58 line)
 abbrev pub headerOf : List ℕ → ℕ
 headerOf line = placeAmong Ignored (text "CSeq Session Transport Require Accept") (before 58 line)
 
--- the values of the headers of one kind, in the order in which they were sent; and the first of them
+-- the values of the headers of one kind, in the order in which they were sent
 abbrev pub valuesOf : ℕ → List (List ℕ) → List (List ℕ)
 valuesOf k [] = []
 valuesOf k (h ∷ hs) = cond (eqb (headerOf h) k) (trim (after 58 h) ∷ valuesOf k hs) (valuesOf k hs)
-
-abbrev pub firstValue : List (List ℕ) → List ℕ
-firstValue vs = getD vs 0 []

@@ -7,7 +7,7 @@ use mathlib.Core.List.{List, [], _∷_}
 use lib.Dec.{eqb}
 use lib.ListN.{length, drop, getD, replicate}
 use Rattle.scan.specs.Found.{Holds, placeIn, leading}
-use Rattle.lines.specs.Headers.{isHeader, headerOf, valuesOf, firstValue}
+use Rattle.lines.specs.Headers.{isHeader, headerOf, valuesOf}
 use Rattle.lines.specs.Lines.{lines, areLines, isLaidOut, requestLine, headerLines}
 use Rattle.lines.specs.declared.Seen.{Seen}
 use Rattle.lines.specs.declared.Header.{Header}
@@ -20,6 +20,9 @@ use Rattle.scan.specs.Text.{text}
 -- the known headers, by their places
 abbrev pub known : List ℕ
 known = text "CSeq Session Transport Require Accept"
+
+abbrev pub firstValue : List (List ℕ) → List ℕ
+firstValue vs = getD vs 0 []
 
 abbrev pub headerColon : List ℕ → ℕ
 headerColon line = first (is 58) line

@@ -18,7 +18,8 @@ use Rattle.table.specs.declared.Refusal.{Refusal}
 use Rattle.table.specs.declared.Refusal.the-variants.{Table, Journal, Answer, Buffer}
 use Rattle.table.specs.declared.Outcome.{Outcome}
 use Rattle.table.specs.declared.Outcome.the-variants.{Done, Refused}
-use Rattle.orders.specs.Orders.{isFed, playsAsOwner, orderAt, orderFor, orderOf}
+use Rattle.orders.specs.Orders.{playsAsOwner, orderAt, orderFor, orderOf}
+use Rattle.orders.proofs.OrderLaws.{isFed}
 use Rattle.orders.specs.declared.Order.{Order}
 use Rattle.satbox.specs.Calls.{_else_andThen_, isJournal, ticked, collected}
 use Rattle.satbox.specs.Requests.{replied}

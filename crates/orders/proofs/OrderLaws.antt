@@ -16,10 +16,15 @@ use Rattle.table.specs.Counts.{any}
 use Rattle.table.specs.Table.{streamOf}
 use Rattle.table.specs.Formed.{wellFormed}
 use Rattle.table.specs.declared.SatBox.{SatBox}
-use Rattle.orders.specs.Orders.{isFed, playsAsOwner, off, orderAt, orderFor, orderOf}
+use Rattle.orders.specs.Orders.{playsAsOwner, off, orderAt, orderFor, orderOf}
 use Rattle.orders.specs.declared.Ordered.the-variants.{On, Off, Refused}
 use Rattle.table.specs.declared.Refusal.the-variants.{Table, Frontend}
 use Rattle.orders.specs.declared.Order.{Order}
+use Rattle.stream.specs.declared.Stream.{Stream}
+
+-- a stream has the frontend n
+abbrev pub isFed : ℕ → Stream → Bool
+isFed n m = eqb (m .frontend) n
 
 next : (i : ℕ) → i + 1 ≡ suc i
 next i = omega arith

@@ -7,7 +7,6 @@ use Rattle.scan.specs.Classes.{isBetween}
 use Rattle.scan.specs.Lists.{first}
 use Rattle.stream.specs.Streams.{noStream}
 use Rattle.stream.specs.Values.{areComplete}
-use Rattle.stream.specs.declared.Stream.{Stream}
 use Rattle.table.specs.Counts.{any}
 use Rattle.table.specs.Table.{streamOf, owns}
 use Rattle.table.specs.Formed.{wellFormed}
@@ -17,10 +16,6 @@ use Rattle.table.specs.declared.Refusal.the-variants.{Table, Frontend}
 use Rattle.orders.specs.declared.Ordered.{Ordered}
 use Rattle.orders.specs.declared.Ordered.the-variants.{On, Off, Refused}
 use Rattle.orders.specs.declared.Order.{Order}
-
--- "the frontend is held": by the first stream that has it
-abbrev pub isFed : ℕ → Stream → Bool
-isFed n m = eqb (m .frontend) n
 
 -- "the owner plays"
 abbrev pub playsAsOwner : ℕ → Session → Bool
@@ -35,9 +30,9 @@ unfoldable pub orderAt : SatBox → ℕ → Order
 orderAt t id =
     cond (any (playsAsOwner id) (t .sessions) && areComplete (streamOf t id .values)) (record { stream = streamOf t id; outcome = On }) (off Off)
 
--- "exactly when the frontend is held"; the IDs count from 1
+-- "exactly when the frontend is held": by the first stream that has it; the IDs count from 1
 unfoldable pub orderFor : SatBox → ℕ → Order
-orderFor t n = cond (ltb (first (isFed n) (t .streams)) (length (t .streams))) (orderAt t (suc (first (isFed n) (t .streams)))) (off Off)
+orderFor t n = let k = first (λ m. eqb (m .frontend) n) (t .streams) in cond (ltb k (length (t .streams))) (orderAt t (suc k)) (off Off)
 
 -- 1: "the table is not well formed"; 5: "frontend number is 0 or above F"
 unfoldable pub orderOf : SatBox → ℕ → Order

@@ -4,8 +4,9 @@ ghost use mathlib.Core.Bool.{cond};
 ghost use lib.Dec.{eqb};
 ghost use Rattle.scan.specs.Classes.{isBetween};
 ghost use Rattle.scan.specs.Found.{FirstOf};
+ghost use Rattle.stream.specs.declared.Stream.{Stream};
 ghost use Rattle.table.specs.Formed.{wellFormed};
-ghost use Rattle.orders.specs.Orders.{isFed, playsAsOwner, orderFor, orderOf};
+ghost use Rattle.orders.specs.Orders.{playsAsOwner, orderFor, orderOf};
 use stream::Stream;
 use table::Refusal;
 use table::SatBox;
@@ -40,7 +41,7 @@ fn is_feed(f: u8, n: u32) -> bool
 
 // The place of the stream that holds a frontend; 8 where none does.
 fn place_fed(t: SatBox, n: u32) -> usize
-    ensures { λ r. ⌜ FirstOf (isFed n) (t .streams) r ⌝ }
+    ensures { λ r. ⌜ FirstOf (λ (m : Stream). eqb (m .frontend) n) (t .streams) r ⌝ }
 {
     let mut i = 0;
     while i < SatBox::STREAMS {

@@ -19,7 +19,7 @@ use Rattle.aim.specs.Aim.{uriRefusal}
 use Rattle.aim.specs.declared.Method.the-variants.{Setup}
 use Rattle.refusals.specs.declared.Refusal.{Refusal}
 use Rattle.refusals.specs.declared.Refusal.the-variants.{Value as Outside}
-use Rattle.reader.specs.Fields.{cseqFrom, sessionOf, transportOf}
+use Rattle.reader.specs.Fields.{sessionOf, transportOf}
 use Rattle.reader.specs.Request.{cseqOf, headRefusal, requestRefusal, methodOf}
 use Rattle.reader.specs.declared.fields.Session.the-variants.{Absent}
 use Rattle.reader.specs.declared.fields.Transport.the-variants.{Other, Port}
@@ -58,7 +58,7 @@ use lib.Dec.{ltb}
 
 -- Named on a proof's `unfolding` line, these let meanings be worked out there: of reading, of lists of PIDs, of serving; and all of them
 unfoldable pub reading : ℕ
-unfolding requestRefusal headRefusal cseqOf cseqFrom isLaidOut requestLine headerLines methodOf uriRefusal isUri streamOfPath attributeIn attributeOf valueOf frequency arePids placeAmong readNumber readHex8 codesIn codeIn textIn sessionOf transportOf
+unfolding requestRefusal headRefusal cseqOf isLaidOut requestLine headerLines methodOf uriRefusal isUri streamOfPath attributeIn attributeOf valueOf frequency arePids placeAmong readNumber readHex8 codesIn codeIn textIn sessionOf transportOf
 reading = 0
 
 unfoldable pub listing : ℕ

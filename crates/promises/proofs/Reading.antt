@@ -7,7 +7,8 @@ use Prim.Native.Nat.{ℕ, _%_, _<_}
 use borrow.Author.Tests.{eq-eqb, le-leb}
 use Rattle.scan.proofs.Bools.{both}
 use Rattle.lines.specs.Lines.{headerLines}
-use Rattle.lines.specs.Headers.{valuesOf, firstValue}
+use Rattle.lines.specs.Headers.{valuesOf}
+use Rattle.lines.specs.Laid.{firstValue}
 use Rattle.reader.specs.Fields.{transportOf}
 use Rattle.reader.specs.declared.fields.Transport.the-variants.{Port}
 use Rattle.table.specs.declared.SatBox.{SatBox}

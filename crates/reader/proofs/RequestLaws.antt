@@ -21,15 +21,15 @@ use Rattle.digits.specs.declared.Read.{Read}
 use Rattle.digits.specs.declared.Read.the-variants.{Nothing}
 use Rattle.digits.specs.declared.Zeros.the-variants.{Allowed}
 use Rattle.lines.specs.Lines.{isLaidOut, requestLine, headerLines}
-use Rattle.lines.specs.Headers.{valuesOf, firstValue}
-use Rattle.lines.specs.Laid.{unseen, SeenIs, valueStart, LinesAre}
+use Rattle.lines.specs.Headers.{valuesOf}
+use Rattle.lines.specs.Laid.{firstValue, unseen, SeenIs, valueStart, LinesAre}
 use Rattle.lines.specs.declared.Seen.{Seen}
 use Rattle.lines.specs.declared.Lines.{Lines}
 use Rattle.target.specs.Line.{isThree, linePart}
 use Rattle.target.specs.Steps.{PartsAre}
 use Rattle.target.specs.declared.Parts.{Parts}
-use Rattle.reader.specs.Fields.{cseqFrom, sessionOf, transportOf}
-use Rattle.reader.specs.Heads.{sessionIn, headText, cseqAt, sessionSeen, areTwice, Begun, Headed, Passing, uriStart, refusedRequest, RequestIs, isOther, isVersion, methodIn, areRepeated}
+use Rattle.reader.specs.Fields.{sessionOf, transportOf}
+use Rattle.reader.specs.Heads.{cseqFrom, sessionIn, headText, cseqAt, sessionSeen, areTwice, Begun, Headed, Passing, uriStart, refusedRequest, RequestIs, isOther, isVersion, methodIn, areRepeated}
 use Rattle.aim.specs.Found.{nowhere, AimIs}
 use Rattle.refusals.specs.Refusals.{isRead, readingRule}
 use Rattle.reader.specs.Request.{cseqOf, methodOf, uriOf, headRefusal, requestRefusal}
@@ -55,7 +55,6 @@ module _ {s : List ℕ} {vs : List (List ℕ)} {seen : Seen} (i : SeenIs s vs se
   seen-text = i .value .is
 
   pub seen-cseq : cseqAt s seen ≡ cseqFrom vs
-  unfolding cseqFrom
   seen-cseq =
       rw (i .times, seen-text)
       (capped (λ k n. cond (eqb k 1) (readNumber Allowed 10 4294967295 (firstValue vs)) Nothing ≡ cond (eqb n 1) (readNumber Allowed 10 4294967295 (firstValue vs)) Nothing) (length vs) refl refl

@@ -1,25 +1,20 @@
 -- What the known headers say. Their values are given as those that were sent, in their order. Assumes nothing.
 use Prim.Native.Nat.{ℕ, _+_, _%_}
 use mathlib.Core.Bool.{cond, _&&_}
-use mathlib.Core.List.{List}
+use mathlib.Core.List.{List, []}
 use lib.Dec.{eqb}
-use lib.ListN.{length, drop}
+use lib.ListN.{length, drop, getD}
 use Rattle.scan.specs.Text.{text}
 use Rattle.scan.specs.Cut.{before, after}
 use Rattle.digits.specs.Reading.{readNumber, atLeast, readHex8}
 use Rattle.digits.specs.declared.Read.{Read}
 use Rattle.digits.specs.declared.Read.the-variants.{Value, Nothing}
-use Rattle.digits.specs.declared.Zeros.the-variants.{Allowed, Refused}
-use Rattle.lines.specs.Headers.{firstValue}
+use Rattle.digits.specs.declared.Zeros.the-variants.{Refused}
 use Rattle.target.specs.Uri.{startsWith}
 use Rattle.reader.specs.declared.fields.Session.{Session}
 use Rattle.reader.specs.declared.fields.Session.the-variants.{Absent, Malformed, Named}
 use Rattle.reader.specs.declared.fields.Transport.{Transport}
 use Rattle.reader.specs.declared.fields.Transport.the-variants.{Other, Port}
-
--- step 2: "exactly one CSeq of 1 to 10 digits up to 4294967295"
-unfoldable pub cseqFrom : List (List ℕ) → Read
-cseqFrom vs = cond (eqb (length vs) 1) (readNumber Allowed 10 4294967295 (firstValue vs)) Nothing
 
 -- step 11's reading: "Session, up to its first semicolon, is 8 hex digits of either case"
 abbrev pub sessionFrom : Read → Session
@@ -27,7 +22,7 @@ sessionFrom (Value n) = Named n
 sessionFrom Nothing = Malformed
 
 unfoldable pub sessionOf : List (List ℕ) → Session
-sessionOf vs = cond (eqb (length vs) 0) Absent (sessionFrom (readHex8 (before 59 (firstValue vs))))
+sessionOf vs = cond (eqb (length vs) 0) Absent (sessionFrom (readHex8 (before 59 (getD vs 0 []))))
 
 -- step 15's reading: "exactly `RTP/AVP;unicast;client_port=a-b`, decimal without leading zeros, a even, 1024 to 65534, b = a + 1"
 abbrev pub portFrom : Read → Read → Transport

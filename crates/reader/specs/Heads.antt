@@ -13,8 +13,8 @@ use Rattle.digits.specs.declared.Read.{Read}
 use Rattle.digits.specs.declared.Read.the-variants.{Value as Number, Nothing}
 use Rattle.digits.specs.declared.Zeros.the-variants.{Allowed}
 use Rattle.lines.specs.Lines.{headerLines, requestLine}
-use Rattle.lines.specs.Headers.{valuesOf, firstValue}
-use Rattle.lines.specs.Laid.{unseen, SeenIs, LinesAre, valueStart}
+use Rattle.lines.specs.Headers.{valuesOf}
+use Rattle.lines.specs.Laid.{firstValue, unseen, SeenIs, LinesAre, valueStart}
 use Rattle.lines.specs.declared.Seen.{Seen}
 use Rattle.lines.specs.declared.Lines.{Lines}
 use Rattle.target.specs.Steps.{PartsAre}
@@ -71,6 +71,9 @@ isVersion s = areAlike Counts (linePart 2 (requestLine s)) (text "RTSP/1.0")
 
 abbrev pub headText : List ℕ → Seen → List ℕ
 headText s seen = part (seen .start) (seen .end) s
+
+abbrev pub cseqFrom : List (List ℕ) → Read
+cseqFrom vs = cond (eqb (length vs) 1) (readNumber Allowed 10 4294967295 (firstValue vs)) Nothing
 
 abbrev pub cseqAt : List ℕ → Seen → Read
 cseqAt s seen = cond (eqb (seen .times) 1) (readNumber Allowed 10 4294967295 (headText s seen)) Nothing

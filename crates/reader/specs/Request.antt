@@ -8,13 +8,13 @@ use Rattle.scan.specs.Text.{text}
 use Rattle.scan.specs.Compare.{areAlike}
 use Rattle.scan.specs.Words.{placeAmong}
 use Rattle.scan.specs.declared.Case.the-variants.{Counts}
-use Rattle.digits.specs.Reading.{isValue}
+use Rattle.digits.specs.Reading.{readNumber, isValue}
 use Rattle.digits.specs.declared.Read.{Read}
 use Rattle.digits.specs.declared.Read.the-variants.{Nothing}
+use Rattle.digits.specs.declared.Zeros.the-variants.{Allowed}
 use Rattle.lines.specs.Lines.{isLaidOut, requestLine, headerLines}
 use Rattle.lines.specs.Headers.{valuesOf}
 use Rattle.target.specs.Line.{isThree, linePart}
-use Rattle.reader.specs.Fields.{cseqFrom}
 use Rattle.refusals.specs.Refusals.{isRead}
 use Rattle.refusals.specs.declared.Refusal.{Refusal}
 use Rattle.refusals.specs.declared.Refusal.the-variants.{Passed, Layout, CSeq, RequestLine, HeaderTwice, Version, Require}
@@ -24,9 +24,11 @@ use Rattle.aim.specs.declared.Method.the-variants.{Options, Setup, Play, Teardo
 use Rattle.aim.specs.Aim.{uriRefusal, methodNumber}
 use Rattle.scan.specs.Lists.{_gives_or_}
 
--- the CSeq that a whole layout carries
+-- step 2: "exactly one CSeq of 1 to 10 digits up to 4294967295", in a whole layout
 unfoldable pub cseqOf : List ℕ → Read
-cseqOf s = cond (isLaidOut s) (cseqFrom (valuesOf 0 (headerLines s))) Nothing
+cseqOf s =
+    let vs = valuesOf 0 (headerLines s) in
+    cond (isLaidOut s) (cond (eqb (length vs) 1) (readNumber Allowed 10 4294967295 (getD vs 0 [])) Nothing) Nothing
 
 -- a method by its word; "case counts"
 unfoldable pub methodOf : List ℕ → Method

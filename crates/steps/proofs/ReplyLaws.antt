@@ -17,7 +17,8 @@ use Rattle.digits.specs.declared.Zeros.the-variants.{Allowed}
 use Rattle.digits.specs.declared.Read.the-variants.{Nothing}
 use Rattle.digits.proofs.Limits.{Is-read, read-keeps, number-most}
 use Rattle.lines.specs.Lines.{isLaidOut, requestLine, headerLines}
-use Rattle.lines.specs.Headers.{valuesOf, firstValue}
+use Rattle.lines.specs.Headers.{valuesOf}
+use Rattle.lines.specs.Laid.{firstValue}
 use Rattle.target.specs.Line.{isThree}
 use Rattle.target.specs.Uri.{isUri, hostOf, hasQuery, queryOf}
 use Rattle.aim.specs.Query.{partsOf, areParts}
@@ -28,9 +29,8 @@ use Rattle.aim.specs.declared.Method.{Method}
 use Rattle.aim.specs.declared.Method.the-variants.{Options, Setup, Play, Teardown, Other}
 use Rattle.refusals.specs.declared.Refusal.{Refusal}
 use Rattle.refusals.specs.declared.Refusal.the-variants as refusal
-use Rattle.reader.specs.Fields.{cseqFrom}
-use Rattle.reader.specs.Request.{methodOf, uriOf, cseqOf, headRefusal, requestRefusal}
 use Rattle.reader.specs.Heads.{isOther, isVersion, RequestIs, areRepeated}
+use Rattle.reader.specs.Request.{methodOf, uriOf, cseqOf, headRefusal, requestRefusal}
 use Rattle.reader.specs.declared.Request.{Request}
 use Rattle.table.specs.declared.Session.{Session}
 use Rattle.answer.specs.Lines.{refusedLines, answerLines}
@@ -267,7 +267,7 @@ status-small TooManyPids = omega arith
 status-small Full = omega arith
 
 cseq-small : (s : List ℕ) → Is-read Is-small (cseqOf s)
-unfolding cseqOf cseqFrom
+unfolding cseqOf
 cseq-small s =
     let value = firstValue (valuesOf 0 (headerLines s)) in
     cond-keeps (Is-read Is-small) (isLaidOut s) _ Nothing

@@ -3,9 +3,9 @@ use Prim.Native.Nat.{ℕ}
 use mathlib.Core.Bool.{Bool}
 use mathlib.Core.List.{List, [], _∷_, map}
 use lib.Dec.{ltb}
-use lib.ListN.{length}
+use lib.ListN.{length, getD}
 use Rattle.lines.specs.Lines.{headerLines}
-use Rattle.lines.specs.Headers.{valuesOf, firstValue}
+use Rattle.lines.specs.Headers.{valuesOf}
 use Rattle.target.specs.Uri.{streamNamed, queryOf}
 use Rattle.aim.specs.Query.{partsOf, textIn, codeFrom, codeIn}
 use Rattle.aim.specs.declared.Method.{Method}
@@ -41,7 +41,7 @@ askedOf frontends s =
       codes = codesIn frontends (uriOf s);
       query = ltb 0 (length (queryOf (uriOf s)));
       session = sessionOf (valuesOf 1 (headerLines s));
-      transport = transportOf (firstValue (valuesOf 2 (headerLines s)));
+      transport = transportOf (getD (valuesOf 2 (headerLines s)) 0 []);
     }
 
 abbrev pub listsOf : List ℕ → Lists

@@ -6,7 +6,7 @@ use lib.Dec.{eqb}
 use Rattle.scan.specs.Text.{text, _&_}
 use Rattle.writing.specs.Writing.{decimal}
 use Rattle.lines.specs.Lines.{headerLines}
-use Rattle.lines.specs.Headers.{valuesOf, firstValue}
+use Rattle.lines.specs.Headers.{valuesOf}
 use Rattle.target.specs.Uri.{hostOf}
 use Rattle.aim.specs.declared.Method.{Method}
 use Rattle.aim.specs.declared.Method.the-variants.{Options, Setup, Play, Teardown, Other}
@@ -15,6 +15,7 @@ use Rattle.table.specs.declared.Session.{Session}
 use Rattle.answer.specs.Lines.{line, sessionLine, publicLine, transportLine, refusedLines, answerLines}
 use Rattle.steps.specs.Cases.{ruleOf, isPassed}
 use Rattle.steps.specs.declared.cases.Case.{Case}
+use lib.ListN.{getD}
 
 -- "on 200", of the session that the answer is about; 0 is none
 abbrev pub grantedLines : Method → List ℕ → Session → List ℕ
@@ -28,4 +29,4 @@ grantedLines Other host s = []
 unfoldable pub replyText : Case → List ℕ → Session → List ℕ
 replyText case s session =
     answerLines (ruleOf case .1) (cseqOf s)
-    (cond (isPassed case) (grantedLines (methodOf s) (hostOf (uriOf s)) session) (refusedLines (ruleOf case .0) (firstValue (valuesOf 3 (headerLines s)))))
+    (cond (isPassed case) (grantedLines (methodOf s) (hostOf (uriOf s)) session) (refusedLines (ruleOf case .0) (getD (valuesOf 3 (headerLines s)) 0 [])))

@@ -6,7 +6,7 @@ use lib.ListN.{length}
 use Rattle.scan.proofs.Loops.{Seeking, seeking-start, seeking-hit, seeking-more, seeking-end}
 use Rattle.stream.specs.Streams.{pastStream}
 use Rattle.table.proofs.Places.{known}
-use Rattle.orders.specs.Orders.{isFed}
+use Rattle.orders.proofs.OrderLaws.{isFed}
 use Rattle.orders.proofs.place_fed.Statement.{statement}
 use Rattle.orders.proofs.place_fed.Tie as tie
 
