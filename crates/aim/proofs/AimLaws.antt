@@ -9,7 +9,7 @@ use lib.Dec.{ltb, eqb}
 use lib.ListN.{length, getD, replicate, drop-of-length-le}
 use borrow.Author.Tests.{lt-ltb, le-ltb, ltb-false}
 use Rattle.scan.specs.Lists.{all, part, first, _gives_or_}
-use Rattle.scan.specs.Cut.{is, cut}
+use Rattle.scan.specs.Text.{is, cut}
 use Rattle.scan.specs.Found.{Holds}
 use Rattle.scan.specs.declared.Span.{Span}
 use Rattle.scan.proofs.Bools.{never, by-cases}

@@ -11,7 +11,7 @@ use lib.Seq.{getD-set-same, getD-set-other}
 use borrow.Author.Tests.{ltb-true, lt-ltb, le-ltb, eq-eqb, ne-eqb}
 use Rattle.scan.specs.Lists.{all, part, first}
 use Rattle.scan.specs.Found.{Holds, FirstOf, FirstFrom, cutFrom}
-use Rattle.scan.specs.Cut.{is, cut}
+use Rattle.scan.specs.Text.{is, cut}
 use Rattle.scan.specs.declared.Span.{Span}
 use Rattle.scan.proofs.Bools.{never, by-test, by-cases}
 use Rattle.scan.proofs.Cuts.{cut-start, cut-turn, cut-end}

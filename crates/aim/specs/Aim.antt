@@ -14,7 +14,7 @@ use Rattle.refusals.specs.declared.Refusal.the-variants.{Value as Outside}
 use Rattle.aim.specs.declared.Method.{Method}
 use Rattle.aim.specs.declared.Method.the-variants.{Options, Setup, Play, Teardown, Other}
 use Rattle.scan.specs.Lists.{all, _gives_or_}
-use Rattle.scan.specs.Cut.{after}
+use Rattle.scan.specs.Text.{after}
 
 -- a method's place among OPTIONS, SETUP, PLAY, TEARDOWN, from 0 on; 4 for any other
 abbrev pub methodNumber : Method → ℕ

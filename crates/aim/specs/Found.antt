@@ -22,7 +22,7 @@ use Rattle.aim.specs.declared.Method.{Method}
 use Rattle.aim.specs.declared.Aim.{Aim}
 use Rattle.aim.specs.Aim.{methodNumber, uriRefusal}
 use Rattle.scan.specs.Lists.{all, first, _gives_or_}
-use Rattle.scan.specs.Cut.{is, after, cut}
+use Rattle.scan.specs.Text.{is, after, cut}
 use Rattle.digits.specs.Reading.{isValue}
 use Rattle.tuning.specs.Values.{valueOf}
 use Rattle.refusals.specs.declared.Refusal.the-variants.{Value as Outside}

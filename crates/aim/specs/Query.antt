@@ -4,12 +4,11 @@ use mathlib.Core.Bool.{Bool, true, not, cond, _&&_}
 use mathlib.Core.List.{List, [], _∷_}
 use lib.Dec.{ltb, eqb}
 use Rattle.scan.specs.Lists.{all, first}
-use Rattle.scan.specs.Cut.{cut, before, after}
+use Rattle.scan.specs.Text.{cut, before, after, isEmpty}
 use Rattle.digits.specs.declared.Read.{Read}
 use Rattle.digits.specs.declared.Read.the-variants.{Value, Nothing}
 use Rattle.target.specs.Uri.{hasQuery, queryOf}
 use Rattle.tuning.specs.Values.{attributeOf, valueOf}
-use Rattle.scan.specs.Trim.{isEmpty}
 use lib.ListN.{getD}
 
 -- the parts of a URI's query; none where there is no `?`

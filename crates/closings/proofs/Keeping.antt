@@ -10,7 +10,7 @@ use lib.Dec.{leb}
 use lib.ListN.{length, set, length-set, List·getD-eq-default}
 use lib.Seq.{set-getD, map-set-same}
 use borrow.Author.Tests.{ne-eqb, eq-eqb, leb-true}
-use Rattle.scan.specs.Classes.{isBetween}
+use Rattle.scan.specs.Lists.{isBetween}
 use Rattle.scan.proofs.Bools.{and-both, by-cases, Case, is, isnt, case, Same, same, other, sames, cond-keeps}
 use Rattle.stream.specs.Streams.{noStream, pastStream}
 use Rattle.stream.specs.declared.Stream.{Stream}
@@ -21,9 +21,8 @@ use Rattle.table.specs.declared.Settings.{Settings}
 use Rattle.table.specs.declared.SatBox.{SatBox}
 use Rattle.table.proofs.Rules.{Seats, Rows, AreProper, WellFormed, formed, formed-back}
 use Rattle.table.proofs.Changes.{clear, seated-live, seats-freed, seats-emptied, seated-id, rows-freed, by-id, proper-set, proper-cleared, proper-later, none-proper}
-use Rattle.closings.specs.Did.{Did, nothing, then, restreamed, reseated, noting}
+use Rattle.closings.specs.Closing.{Did, nothing, then, restreamed, reseated, noting, closeOne, closeOn, cascade, closing, isExpired, sweepAt, swept, atClock}
 use Rattle.closings.specs.Does.{Roomy, Closable}
-use Rattle.closings.specs.Closing.{closeOne, closeOn, cascade, closing, isExpired, sweepAt, swept, atClock}
 use Rattle.closings.proofs.Closings.{free, closeOne-fine, closing-fine, closable}
 use Rattle.closings.proofs.DoesLaws.{Fine}
 use Rattle.closings.proofs.Runs.{upto-keeps, upto-map}

@@ -7,7 +7,7 @@ use native.Mathlib.Omega.{arith}
 use lib.ListN.{length, getD, set, take, drop, length-map, drop-of-length-le}
 use lib.Seq.{set-at, getD-at, take-suc, drop-cons, length-take-le, take-all}
 use Rattle.table.specs.declared.SatBox.{SatBox}
-use Rattle.closings.specs.Did.{Did, did, nothing, then, upto}
+use Rattle.closings.specs.Closing.{Did, did, nothing, then, upto}
 
 pub upto-keeps : (f : ℕ → SatBox → Did) (P : SatBox → Type 0) (m : ℕ) → ((i : ℕ) (t : SatBox) → i < m → P t → P (f i t .satbox)) → (t : SatBox) → P t → (n : ℕ) → n ≤ m → P (upto f n t .satbox)
 unfolding upto

@@ -1,5 +1,4 @@
-pub mod Did
+pub mod Closing
 pub mod Does
 pub mod Stamps
-pub mod Closing
 pub mod DueAt

@@ -8,7 +8,7 @@ use native.Mathlib.Omega.{arith}
 use lib.ListN.{length, take, getD, length-append, List·getD-eq-default}
 use lib.Seq.{take-suc, take-length, getD-take, length-take-le}
 use Rattle.scan.proofs.Bools.{by-cases}
-use Rattle.digits.specs.Positional.{digitsIn, valueIn}
+use Rattle.digits.specs.Reading.{digitsIn, valueIn}
 
 -- the number that digits say after v
 abbrev pub valueFrom : ℕ → ℕ → List ℕ → ℕ

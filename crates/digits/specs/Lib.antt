@@ -1,2 +1,1 @@
-pub mod Positional
 pub mod Reading

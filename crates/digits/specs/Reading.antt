@@ -1,16 +1,23 @@
--- Numbers read from text. What is read is the whole text, so the digits stand where it stands. Assumes nothing.
-use Prim.Native.Nat.{ℕ, _-_}
+-- Numbers by their digits in a base, the highest first, and numbers read from text: the whole text, so the digits stand where it stands. Assumes nothing.
+use Prim.Native.Nat.{ℕ, zero, suc, _+_, _*_, _/_, _%_, _-_}
+use mathlib.Core.List.{List, [], _∷_, _++_, foldl, map}
 use mathlib.Core.Bool.{Bool, true, false, cond, _&&_}
-use mathlib.Core.List.{List, map}
 use lib.Dec.{leb, ltb, eqb}
 use lib.ListN.{length, getD}
-use Rattle.scan.specs.Lists.{all}
-use Rattle.scan.specs.Classes.{isBetween, isDigit}
-use Rattle.digits.specs.Positional.{valueIn}
+use Rattle.scan.specs.Lists.{all, isBetween, isDigit}
 use Rattle.digits.specs.declared.Read.{Read}
 use Rattle.digits.specs.declared.Read.the-variants.{Value, Nothing}
 use Rattle.digits.specs.declared.Zeros.{Zeros}
 use Rattle.digits.specs.declared.Zeros.the-variants.{Allowed, Refused}
+
+-- the last k digits of v
+abbrev pub digitsIn : ℕ → ℕ → ℕ → List ℕ
+digitsIn base zero v = []
+digitsIn base (suc k) v = digitsIn base k (v / base) ++ (v % base ∷ [])
+
+-- the number that the digits say
+abbrev pub valueIn : ℕ → List ℕ → ℕ
+valueIn base ds = foldl (λ v d. v * base + d) 0 ds
 
 -- what a byte counts as a digit: 0 to 9, and A to F of either case are 10 to 15; any other byte counts 255
 abbrev pub digitOf : ℕ → ℕ

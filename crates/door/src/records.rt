@@ -1,7 +1,7 @@
 // The journal's records, as C gets them.
 ghost use mathlib.Core.Path.{_≡_};
-ghost use Rattle.journal.specs.Calls.{readAt};
-ghost use Rattle.door.specs.Records.{readFrom, writeReply, writtenNumber};
+ghost use Rattle.journal.specs.Records.{readAt};
+ghost use Rattle.door.specs.Turns.{readFrom, writeReply, writtenNumber};
 use journal::Outcome;
 use journal::Reading;
 use journal::Record;

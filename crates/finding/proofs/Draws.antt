@@ -9,9 +9,8 @@ use lib.Dec.{eqb, leb}
 use lib.ListN.{length}
 use borrow.Author.Tests.{eqb-true, eqb-false, leb-true, lt-leb, le-leb, eq-eqb, ne-eqb}
 use Rattle.scan.proofs.Bools.{never, Case, case, is, isnt, Same, sames, same, other, or-second, or-neither}
-use Rattle.table.specs.Counts.{count, any}
+use Rattle.table.specs.Table.{count, any, noSession, hasNumber}
 use Rattle.table.proofs.Counts.{bit, count-le, count-length}
-use Rattle.table.specs.Table.{noSession, hasNumber}
 use Rattle.finding.specs.Finding.{firstFree, drawn}
 use Rattle.table.specs.declared.Session.{Session}
 

@@ -6,7 +6,7 @@ use Prim.Native.Nat.{ℕ, zero, suc, _+_, _-_, _≤_, _<_}
 use native.Mathlib.Omega.{arith}
 use Rattle.scan.proofs.Bools.{Case, case, is, isnt}
 use Rattle.stream.specs.declared.Stream.{Stream}
-use Rattle.table.specs.Counts.{isAmong}
+use Rattle.table.specs.Table.{isAmong}
 use Rattle.table.proofs.Rules.{frontendsOf}
 use Rattle.finding.specs.Finding.{firstFree, isHeld, lowestFrontend}
 

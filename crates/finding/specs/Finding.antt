@@ -5,8 +5,7 @@ use mathlib.Core.List.{List, map}
 use lib.Dec.{eqb}
 use Rattle.scan.specs.Lists.{first}
 use Rattle.stream.specs.declared.Stream.{Stream}
-use Rattle.table.specs.Counts.{any, isAmong}
-use Rattle.table.specs.Table.{hasNumber, isFree, isDead}
+use Rattle.table.specs.Table.{any, isAmong, hasNumber, isFree, isDead}
 use Rattle.table.specs.declared.Session.{Session}
 
 -- "the lowest free place"; 32 where none is free

@@ -11,15 +11,13 @@ use lib.Dec.{eqb, leb}
 use lib.ListN.{length, getD, set, take, drop, replicate, length-set, getD-replicate}
 use lib.Seq.{getD-set-same, getD-set-other}
 use borrow.Author.Tests.{eq-eqb, ne-eqb, eqb-true, leb-true, leb-false, le-leb}
-use Rattle.scan.specs.Classes.{isBetween}
-use Rattle.scan.specs.Lists.{all, part}
+use Rattle.scan.specs.Lists.{isBetween, all, part}
 use Rattle.scan.proofs.Loops.{turn, end, Passing, passing-start, passing-more, passing-end}
 use Rattle.scan.proofs.Bools.{never, and-both, and-and, Case, is, isnt, case, Same, sames, same, other, both, or-second, or-neither}
 use Rattle.stream.specs.Streams.{pastStream, isSound}
 use Rattle.stream.specs.declared.Stream.{Stream}
-use Rattle.table.specs.Counts.{count, isAmong, areDistinct}
+use Rattle.table.specs.Table.{count, isAmong, areDistinct, noSession, hasNumber, isOpen, openCount, sessionAt, streamOf, isDead, owns}
 use Rattle.table.proofs.Counts.{bit, bit-no, bit-yes, count-none, none-count, count-map, count-distinct, is-number}
-use Rattle.table.specs.Table.{noSession, hasNumber, isOpen, openCount, sessionAt, streamOf, isDead, owns}
 use Rattle.table.specs.Formed.{areSizes, areOwned, isSeated, wellFormed}
 use Rattle.table.proofs.Rules.{numbersOf, isHoused, isProper, WellFormed, formed, one-step}
 use Rattle.table.specs.declared.Session.{Session}

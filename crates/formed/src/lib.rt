@@ -4,7 +4,7 @@ ghost use mathlib.Core.Path.{_≡_};
 ghost use mathlib.Core.Bool.{cond, _&&_, _||_};
 ghost use Prim.Native.Nat.{_+_, _*_, _%_, _≤_};
 ghost use lib.Dec.{eqb, leb};
-ghost use Rattle.scan.specs.Classes.{isBetween};
+ghost use Rattle.scan.specs.Lists.{isBetween};
 ghost use Rattle.stream.specs.Streams.{isSound};
 ghost use Rattle.table.specs.Table.{isFree, isDead};
 ghost use Rattle.table.specs.Formed.{isSeated, isBlank, wellFormed};

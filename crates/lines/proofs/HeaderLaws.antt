@@ -7,12 +7,9 @@ use native.Mathlib.Omega.{arith}
 use lib.Dec.{ltb}
 use lib.ListN.{length, drop}
 use borrow.Author.Tests.{lt-ltb, le-ltb}
-use Rattle.scan.specs.Lists.{all, part}
+use Rattle.scan.specs.Lists.{all, part, isName}
 use Rattle.scan.specs.Found.{FirstOf, Trimmed, leading}
-use Rattle.scan.specs.Classes.{isName}
-use Rattle.scan.specs.Trim.{trim}
-use Rattle.scan.specs.Cut.{is}
-use Rattle.scan.specs.Words.{placeAmong}
+use Rattle.scan.specs.Text.{trim, is, placeAmong}
 use Rattle.scan.specs.declared.Case.the-variants.{Ignored}
 use Rattle.scan.specs.declared.Span.{Span}
 use Rattle.scan.proofs.Bools.{never}

@@ -10,11 +10,9 @@ use lib.Dec.{leb, eqb}
 use lib.ListN.{length, take, drop, getD, drop-of-length-le, List·getD-eq-default}
 use lib.Seq.{drop-drop, drop-cons, getD-drop}
 use borrow.Author.Tests.{leb-true, eq-eqb, ne-eqb, eqb-true}
-use Rattle.scan.specs.Lists.{all, first, part}
+use Rattle.scan.specs.Lists.{all, first, part, isText}
 use Rattle.scan.specs.Found.{FirstFrom, inClass}
-use Rattle.scan.specs.Classes.{isText}
-use Rattle.scan.specs.Trim.{isEmpty}
-use Rattle.scan.specs.Cut.{push}
+use Rattle.scan.specs.Text.{isEmpty, push}
 use Rattle.scan.specs.declared.Class.the-variants.{NotText}
 use Rattle.scan.proofs.Bools.{never, and-both, by-test, by-cases}
 use Rattle.lines.specs.Lines.{lines}

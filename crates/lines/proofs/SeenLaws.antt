@@ -12,9 +12,7 @@ use lib.Seq.{getD-set-same, getD-set-other}
 use borrow.Author.Tests.{le-leb, lt-leb, eqb-true, eq-eqb, ne-eqb}
 use Rattle.scan.specs.Lists.{all, part, first}
 use Rattle.scan.specs.Found.{Holds, FirstFrom, inClass, isWord}
-use Rattle.scan.specs.Trim.{isEmpty}
-use Rattle.scan.specs.Cut.{cut}
-use Rattle.scan.specs.Words.{placeAmong}
+use Rattle.scan.specs.Text.{isEmpty, cut, placeAmong}
 use Rattle.scan.specs.declared.Case.the-variants.{Ignored}
 use Rattle.scan.specs.declared.Class.the-variants.{NotText}
 use Rattle.scan.proofs.Bools.{never, by-test, by-cases, cond-keeps}

@@ -6,10 +6,9 @@ use mathlib.Core.List.{List, [], _∷_, _++_, map}
 use Prim.Native.Nat.{ℕ, _≤_}
 use native.Mathlib.Omega.{arith}
 use borrow.Author.Tests.{ne-eqb}
-use Rattle.scan.specs.Lists.{all}
-use Rattle.scan.specs.Classes.{isText}
+use Rattle.scan.specs.Lists.{all, isText}
 use Rattle.scan.specs.Found.{small}
-use Rattle.scan.specs.Trim.{isEmpty}
+use Rattle.scan.specs.Text.{isEmpty}
 use Rattle.scan.specs.declared.Case.the-variants.{Ignored}
 use Rattle.scan.proofs.Places.{place-by}
 use Rattle.lines.specs.Headers.{isHeader, headerOf, valuesOf}

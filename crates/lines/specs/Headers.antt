@@ -4,11 +4,8 @@ use Prim.Native.Nat.{ℕ}
 use mathlib.Core.Bool.{Bool, cond, _&&_}
 use mathlib.Core.List.{List, [], _∷_}
 use lib.Dec.{eqb}
-use Rattle.scan.specs.Text.{text}
-use Rattle.scan.specs.Classes.{areNameBytes}
-use Rattle.scan.specs.Trim.{trim}
-use Rattle.scan.specs.Cut.{before, after, has}
-use Rattle.scan.specs.Words.{placeAmong}
+use Rattle.scan.specs.Text.{text, before, after, has, trim, placeAmong}
+use Rattle.scan.specs.Lists.{areNameBytes}
 use Rattle.scan.specs.declared.Case.the-variants.{Ignored}
 
 abbrev pub isHeader : List ℕ → Bool

@@ -13,9 +13,7 @@ use Rattle.lines.specs.declared.Seen.{Seen}
 use Rattle.lines.specs.declared.Header.{Header}
 use Rattle.lines.specs.declared.Lines.{Lines}
 use Rattle.scan.specs.Lists.{first, all}
-use Rattle.scan.specs.Cut.{is, before, after}
-use Rattle.scan.specs.Trim.{trim, isEmpty}
-use Rattle.scan.specs.Text.{text}
+use Rattle.scan.specs.Text.{is, before, after, text, trim, isEmpty}
 
 -- the known headers, by their places
 abbrev pub known : List ℕ

@@ -5,10 +5,8 @@ use mathlib.Core.Bool.{Bool, false, cond, _&&_, true}
 use mathlib.Core.List.{List, [], _∷_}
 use lib.Dec.{leb, eqb}
 use lib.ListN.{length, getD, drop, take}
-use Rattle.scan.specs.Lists.{all, first}
-use Rattle.scan.specs.Classes.{isText}
-use Rattle.scan.specs.Trim.{isEmpty}
-use Rattle.scan.specs.Cut.{push}
+use Rattle.scan.specs.Lists.{all, first, isText}
+use Rattle.scan.specs.Text.{isEmpty, push}
 use Rattle.lines.specs.Headers.{isHeader}
 
 -- what stands between the pairs CR LF, and after the last one

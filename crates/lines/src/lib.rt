@@ -4,7 +4,7 @@
 ghost use mathlib.Core.Path.{_≡_};
 ghost use Prim.Native.Nat.{_+_, _≤_};
 ghost use lib.ListN.{length};
-ghost use Rattle.scan.specs.Words.{placeAmong};
+ghost use Rattle.scan.specs.Text.{placeAmong};
 ghost use Rattle.lines.specs.Laid.{known, noHeader, HeaderIs, seenAgain, isPairAt, brokenLines, HeadersAre, LinesAre};
 use scan::Case;
 use scan::Class;

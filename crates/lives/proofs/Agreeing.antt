@@ -7,13 +7,11 @@ use lib.ListN.{length, set}
 use Rattle.scan.proofs.Bools.{Same, same, other, sames}
 use Rattle.journal.specs.declared.Record.{Record}
 use Rattle.stream.specs.declared.Stream.{Stream}
-use Rattle.table.specs.Counts.{any, count}
-use Rattle.table.specs.Table.{noSession, hasNumber, sessionAt, streamOf, isOn}
+use Rattle.table.specs.Table.{any, count, noSession, hasNumber, sessionAt, streamOf, isOn}
 use Rattle.table.specs.declared.Session.{Session}
 use Rattle.table.specs.declared.SatBox.{SatBox}
-use Rattle.closings.specs.Did.{restreamed, reseated, noting, recordOf}
+use Rattle.closings.specs.Closing.{restreamed, reseated, noting, recordOf, closeOne, atClock}
 use Rattle.closings.specs.Does.{Closable}
-use Rattle.closings.specs.Closing.{closeOne, atClock}
 use Rattle.satbox.specs.Calls.{emptied}
 use Rattle.serving.specs.Serving.{withSession}
 use Rattle.promises.proofs.Serving.{Alike}

@@ -11,8 +11,7 @@ use Rattle.scan.proofs.Bools.{never, and-both, both, or-right, Case, is, isnt, 
 use Rattle.journal.specs.declared.Record.{Record}
 use Rattle.stream.specs.Streams.{pastStream}
 use Rattle.stream.specs.declared.Stream.{Stream}
-use Rattle.table.specs.Counts.{any, count}
-use Rattle.table.specs.Table.{noSession, hasNumber, isOpen, isOn, owns}
+use Rattle.table.specs.Table.{any, count, noSession, hasNumber, isOpen, isOn, owns}
 use Rattle.table.proofs.Ids.{streamIn}
 use Rattle.finding.specs.Finding.{isHeld}
 use Rattle.table.specs.declared.Session.{Session}

@@ -12,10 +12,8 @@ use Rattle.table.specs.declared.Settings.{Settings}
 use Rattle.table.specs.declared.SatBox.{SatBox}
 use Rattle.table.specs.declared.Outcome.{Outcome}
 use Rattle.table.specs.declared.Outcome.the-variants.{Done, Refused}
-use Rattle.closings.specs.Did.{Did}
-use Rattle.closings.specs.Closing.{sweeping}
-use Rattle.satbox.specs.Calls.{ifDone, tickOutcome, collectOutcome, ticked, emptied, collected}
-use Rattle.satbox.specs.Requests.{requestOutcome, requested, replied}
+use Rattle.closings.specs.Closing.{Did, sweeping}
+use Rattle.satbox.specs.Calls.{ifDone, tickOutcome, collectOutcome, ticked, emptied, collected, requestOutcome, requested, replied}
 use Rattle.lives.specs.Calls.{lent, Call, request, tick, collect, order, isShort, isCall, Life, live, run, Lives, lifeAfter}
 use Rattle.lives.specs.Audit.{Agree, empty, Leads, begun, quiet}
 use Rattle.lives.proofs.Holding.{Good, born-good}

@@ -8,13 +8,11 @@ use borrow.Author.Tests.{ne-eqb}
 use Rattle.scan.proofs.Bools.{cond-keeps}
 use Rattle.journal.specs.declared.Record.{Record}
 use Rattle.stream.specs.Streams.{noStream}
-use Rattle.table.specs.Counts.{count}
-use Rattle.table.specs.Table.{noSession, hasNumber, sessionAt, isOn}
+use Rattle.table.specs.Table.{count, noSession, hasNumber, sessionAt, isOn}
 use Rattle.table.specs.declared.SatBox.{SatBox}
 use Rattle.table.proofs.Counts.{bit-no, count-set-le}
-use Rattle.closings.specs.Did.{Did, nothing, then, reseated, noting}
+use Rattle.closings.specs.Closing.{Did, nothing, then, reseated, noting, closeOne, closeOn, cascade, closing, isExpired, sweepAt, swept, atClock, sweeping}
 use Rattle.closings.specs.Does.{Roomy, Closable}
-use Rattle.closings.specs.Closing.{closeOne, closeOn, cascade, closing, isExpired, sweepAt, swept, atClock, sweeping}
 use Rattle.closings.proofs.Closings.{free, closable, closeOne-fine}
 use Rattle.closings.proofs.Keeping.{Whole, whole-roomy, sweepAt-whole, clock-whole}
 use Rattle.closings.proofs.Runs.{upto-holds}

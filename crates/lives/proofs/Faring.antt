@@ -22,8 +22,7 @@ use Rattle.reader.specs.declared.fields.Session.{Session as Sent}
 use Rattle.reader.specs.declared.fields.Session.the-variants.{Absent, Malformed, Named}
 use Rattle.journal.specs.declared.Record.{Record}
 use Rattle.stream.specs.declared.Stream.{Stream}
-use Rattle.table.specs.Counts.{any}
-use Rattle.table.specs.Table.{noSession, hasNumber, isFree, isOpen, sessionAt, streamOf}
+use Rattle.table.specs.Table.{any, noSession, hasNumber, isFree, isOpen, sessionAt, streamOf}
 use Rattle.finding.specs.Finding.{lowestPlace}
 use Rattle.table.specs.declared.Session.{Session}
 use Rattle.table.specs.declared.Settings.{Settings}
@@ -32,14 +31,11 @@ use Rattle.table.specs.declared.Outcome.{Outcome}
 use Rattle.table.specs.declared.Outcome.the-variants.{Done, Refused}
 use Rattle.table.proofs.Counts.{first-passes}
 use Rattle.table.proofs.Changes.{opened}
-use Rattle.steps.specs.Asked.{askedOf}
-use Rattle.steps.specs.Sights.{sessionNumber, placeNamed}
-use Rattle.steps.specs.Cases.{isPassed}
-use Rattle.closings.specs.Did.{Did}
-use Rattle.closings.specs.Closing.{sweeping, atClock}
+use Rattle.steps.specs.Sights.{askedOf, sessionNumber, placeNamed}
+use Rattle.steps.specs.Steps.{isPassed}
+use Rattle.closings.specs.Closing.{Did, sweeping, atClock}
 use Rattle.serving.specs.Serving.{answered}
-use Rattle.satbox.specs.Calls.{ifDone, tickOutcome, ticked, collectOutcome, collected, emptied}
-use Rattle.satbox.specs.Requests.{requestOutcome, requested, replied}
+use Rattle.satbox.specs.Calls.{ifDone, tickOutcome, ticked, collectOutcome, collected, emptied, requestOutcome, requested, replied}
 use Rattle.closings.proofs.Keeping.{Whole, clock-whole}
 use Rattle.satbox.proofs.Kept.{sweeping-whole}
 use Rattle.promises.proofs.Requests.{answered-still}

@@ -11,14 +11,12 @@ use Rattle.scan.proofs.Bools.{never, or-right, Case, is, isnt, case, Same, same
 use Rattle.journal.specs.declared.Record.{Record}
 use Rattle.stream.specs.Streams.{noStream}
 use Rattle.stream.specs.declared.Stream.{Stream}
-use Rattle.table.specs.Counts.{any, count}
-use Rattle.table.specs.Table.{noSession, sessionAt, streamOf, isOn}
+use Rattle.table.specs.Table.{any, count, noSession, sessionAt, streamOf, isOn}
 use Rattle.table.specs.declared.Session.{Session}
 use Rattle.table.specs.declared.SatBox.{SatBox}
 use Rattle.table.proofs.Counts.{getD-set-here, count-zero-at, count-cleared-none}
-use Rattle.closings.specs.Did.{Did, nothing, then, upto, restreamed, reseated, noting}
+use Rattle.closings.specs.Closing.{Did, nothing, then, upto, restreamed, reseated, noting, closeOne, closeOn, cascade, closing, isExpired, sweepAt}
 use Rattle.closings.specs.Does.{Roomy, Closable}
-use Rattle.closings.specs.Closing.{closeOne, closeOn, cascade, closing, isExpired, sweepAt}
 use Rattle.closings.proofs.Closings.{free, closable, closeOne-fine, closeOn-fine}
 use Rattle.closings.proofs.Keeping.{Whole, whole-roomy, sweepAt-whole, cascade-sessions}
 use Rattle.closings.proofs.Runs.{upto-holds}

@@ -15,13 +15,12 @@ use Rattle.finding.proofs.Draws.{isTaken, nextNumber, drawnFrom}
 use Rattle.table.specs.declared.Session.{Session}
 use Rattle.table.specs.declared.SatBox.{SatBox}
 use Rattle.table.proofs.Counts.{getD-set-all}
-use Rattle.closings.specs.Did.{Did, nothing, then, restreamed, reseated, noting}
+use Rattle.closings.specs.Closing.{Did, nothing, then, restreamed, reseated, noting, closeOne, closing, sweeping, atClock}
 use Rattle.closings.specs.Does.{Closable}
-use Rattle.closings.specs.Closing.{closeOne, closing, sweeping, atClock}
 use Rattle.closings.proofs.Closings.{free}
-use Rattle.serving.specs.Opening.{guest, seatingAs as seated, canJoin, joining, canOpen, opening}
+use Rattle.serving.specs.Serving.{guest, seatingAs as seated, canJoin, joining, canOpen, opening}
 use Rattle.serving.specs.Serving.{withSession, answered}
-use Rattle.satbox.specs.Requests.{requested}
+use Rattle.satbox.specs.Calls.{requested}
 use Rattle.serving.specs.declared.opening.Client.{Client}
 use Rattle.closings.proofs.Keeping.{Whole, whole-roomy, clock-whole}
 use Rattle.satbox.proofs.Kept.{sweeping-whole}

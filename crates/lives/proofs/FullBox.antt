@@ -8,16 +8,16 @@ use lib.ListN.{length, replicate}
 use borrow.Author.Tests.{eq-eqb}
 use Rattle.refusals.specs.declared.Refusal.the-variants as refusal
 use Rattle.reader.specs.Request.{requestRefusal}
-use Rattle.journal.specs.Bytes.{recordSize}
+use Rattle.journal.specs.Records.{recordSize}
 use Rattle.table.specs.Table.{openCount}
 use Rattle.table.specs.Made.{settingsOf}
 use Rattle.table.specs.declared.SatBox.{SatBox}
-use Rattle.steps.specs.Asked.{askedOf, listsOf}
-use Rattle.steps.specs.Cases.{ruleOf}
+use Rattle.steps.specs.Sights.{askedOf, listsOf}
+use Rattle.steps.specs.Steps.{ruleOf}
 use Rattle.steps.specs.declared.cases.Case.{Case}
 use Rattle.steps.specs.declared.cases.Case.the-variants.{Passed, Full}
 use Rattle.closings.specs.Closing.{sweeping}
-use Rattle.satbox.specs.Requests.{requested, replied}
+use Rattle.satbox.specs.Calls.{requested, replied}
 use Rattle.closings.proofs.Keeping.{whole-formed}
 use Rattle.promises.proofs.Asks.{example, box, home, after as asked}
 use Rattle.promises.proofs.Edges.{meanings, rounds}

@@ -16,8 +16,7 @@ use Rattle.aim.specs.declared.Method.the-variants.{Options}
 use Rattle.reader.specs.Request.{methodOf}
 use Rattle.journal.specs.declared.Record.{Record}
 use Rattle.stream.specs.declared.Stream.{Stream}
-use Rattle.table.specs.Counts.{count}
-use Rattle.table.specs.Table.{noSession, hasNumber, isOpen, sessionAt, streamOf, isOn}
+use Rattle.table.specs.Table.{count, noSession, hasNumber, isOpen, sessionAt, streamOf, isOn}
 use Rattle.finding.specs.Finding.{lowestPlace, lowestId}
 use Rattle.table.specs.declared.Session.{Session}
 use Rattle.table.specs.declared.Settings.{Settings}
@@ -25,16 +24,13 @@ use Rattle.table.specs.declared.SatBox.{SatBox}
 use Rattle.table.specs.declared.Outcome.{Outcome}
 use Rattle.table.specs.declared.Outcome.the-variants.{Done, Refused}
 use Rattle.table.proofs.Counts.{bit-no, bit-yes, count-set, count-zero-at, getD-set-all}
-use Rattle.steps.specs.Asked.{askedOf}
-use Rattle.steps.specs.Sights.{sightOf}
-use Rattle.steps.specs.Cases.{isPassed}
-use Rattle.closings.specs.Did.{Did, nothing, then, restreamed, reseated, noting, recordOf}
+use Rattle.steps.specs.Sights.{askedOf, sightOf}
+use Rattle.steps.specs.Steps.{isPassed}
+use Rattle.closings.specs.Closing.{Did, nothing, then, restreamed, reseated, noting, recordOf, closing, isExpired, sweepAt, swept, sweeping, atClock}
 use Rattle.closings.specs.Does.{Closable}
-use Rattle.closings.specs.Closing.{closing, isExpired, sweepAt, swept, sweeping, atClock}
-use Rattle.serving.specs.Opening.{guest, seatingAs as seated, canJoin, joining, canOpen, opening}
+use Rattle.serving.specs.Serving.{guest, seatingAs as seated, canJoin, joining, canOpen, opening}
 use Rattle.serving.specs.Serving.{withSession, answered}
-use Rattle.satbox.specs.Calls.{ifDone, tickOutcome, ticked, collectOutcome, collected, emptied}
-use Rattle.satbox.specs.Requests.{requestOutcome, requested, replied}
+use Rattle.satbox.specs.Calls.{ifDone, tickOutcome, ticked, collectOutcome, collected, emptied, requestOutcome, requested, replied}
 use Rattle.serving.specs.declared.opening.Client.{Client}
 use Rattle.closings.proofs.Closings.{closable}
 use Rattle.closings.proofs.Keeping.{Whole, whole-roomy, clock-whole, sweepAt-whole}

@@ -17,7 +17,7 @@ use Rattle.table.specs.declared.Settings.{Settings}
 use Rattle.table.specs.declared.SatBox.{SatBox}
 use Rattle.table.specs.declared.Outcome.{Outcome}
 use Rattle.table.specs.declared.Outcome.the-variants.{Done, Refused}
-use Rattle.closings.specs.Did.{Did, bytesOf}
+use Rattle.closings.specs.Closing.{Did, bytesOf}
 use Rattle.satbox.specs.Calls.{ifDone, emptied}
 use Rattle.closings.proofs.DoesLaws.{bytes-append, bytes-length}
 use Rattle.closings.proofs.Keeping.{Whole}

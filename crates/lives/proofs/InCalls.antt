@@ -6,15 +6,13 @@ use Prim.Native.Nat.{ℕ, max}
 use Rattle.aim.specs.declared.Method.the-variants.{Teardown}
 use Rattle.reader.specs.Request.{methodOf}
 use Rattle.journal.specs.declared.Record.{Record}
-use Rattle.table.specs.Counts.{any}
-use Rattle.table.specs.Table.{isOpen, sessionAt, streamOf, isOn, owns}
+use Rattle.table.specs.Table.{any, isOpen, sessionAt, streamOf, isOn, owns}
 use Rattle.table.specs.declared.SatBox.{SatBox}
 use Rattle.table.specs.declared.Outcome.{Outcome}
 use Rattle.table.specs.declared.Outcome.the-variants.{Done}
-use Rattle.steps.specs.Cases.{isPassed}
+use Rattle.steps.specs.Steps.{isPassed}
 use Rattle.closings.specs.Closing.{isExpired, sweeping, atClock}
-use Rattle.satbox.specs.Calls.{ifDone}
-use Rattle.satbox.specs.Requests.{requestOutcome, requested, replied}
+use Rattle.satbox.specs.Calls.{ifDone, requestOutcome, requested, replied}
 use Rattle.serving.specs.Serving.{answered}
 use Rattle.closings.proofs.Keeping.{Whole, clock-whole}
 use Rattle.satbox.proofs.Kept.{sweeping-whole}

@@ -11,8 +11,7 @@ use Rattle.scan.proofs.Bools.{never, and-both, Case, is, isnt, case, Same, same
 use Rattle.journal.specs.declared.Record.{Record}
 use Rattle.stream.specs.Streams.{pastStream}
 use Rattle.stream.specs.declared.Stream.{Stream}
-use Rattle.table.specs.Counts.{any, count}
-use Rattle.table.specs.Table.{noSession, hasNumber, withStream, isOn, owns}
+use Rattle.table.specs.Table.{any, count, noSession, hasNumber, withStream, isOn, owns}
 use Rattle.table.proofs.Ids.{streamIn}
 use Rattle.table.specs.declared.Session.{Session}
 use Rattle.table.proofs.Counts.{bit-no, bit-yes, count-set, count-zero-at, none-count, getD-set-alike}

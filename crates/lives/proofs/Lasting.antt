@@ -16,8 +16,7 @@ use Rattle.reader.specs.Request.{methodOf}
 use Rattle.journal.specs.declared.Record.{Record}
 use Rattle.stream.specs.Streams.{pastStream}
 use Rattle.stream.specs.declared.Stream.{Stream}
-use Rattle.table.specs.Counts.{any, count}
-use Rattle.table.specs.Table.{noSession, hasNumber, isOpen, sessionAt, isOn, owns}
+use Rattle.table.specs.Table.{any, count, noSession, hasNumber, isOpen, sessionAt, isOn, owns}
 use Rattle.finding.specs.Finding.{lowestPlace, lowestId}
 use Rattle.table.specs.declared.Session.{Session}
 use Rattle.table.specs.declared.SatBox.{SatBox}
@@ -25,14 +24,12 @@ use Rattle.table.specs.declared.Outcome.{Outcome}
 use Rattle.table.specs.declared.Outcome.the-variants.{Done, Refused}
 use Rattle.table.proofs.Counts.{getD-set-alike, first-some, first-passes}
 use Rattle.table.proofs.Changes.{opened, seated-live}
-use Rattle.steps.specs.Cases.{isPassed}
-use Rattle.closings.specs.Did.{Did, nothing, restreamed, reseated, noting}
-use Rattle.closings.specs.Closing.{isExpired, sweeping, atClock}
-use Rattle.serving.specs.Opening.{hasPlace, guest, seatingAs as seated, canJoin, joining, canOpen, opening}
+use Rattle.steps.specs.Steps.{isPassed}
+use Rattle.closings.specs.Closing.{Did, nothing, restreamed, reseated, noting, isExpired, sweeping, atClock}
+use Rattle.serving.specs.Serving.{hasPlace, guest, seatingAs as seated, canJoin, joining, canOpen, opening}
 use Rattle.serving.specs.Serving.{withSession, answered}
 use Rattle.serving.specs.declared.opening.Client.{Client}
-use Rattle.satbox.specs.Calls.{ifDone, ticked, collected, emptied}
-use Rattle.satbox.specs.Requests.{requested, replied}
+use Rattle.satbox.specs.Calls.{ifDone, ticked, collected, emptied, requested, replied}
 use Rattle.closings.proofs.Keeping.{Whole, clock-whole}
 use Rattle.satbox.proofs.Kept.{sweeping-whole}
 use Rattle.promises.proofs.Requests.{answered-still}

@@ -11,8 +11,7 @@ use Rattle.scan.proofs.Bools.{and-both, cond-keeps}
 use Rattle.journal.specs.declared.Record.{Record}
 use Rattle.table.specs.Table.{sessionAt}
 use Rattle.table.specs.declared.SatBox.{SatBox}
-use Rattle.closings.specs.Did.{Did, reseated, noting, recordOf}
-use Rattle.closings.specs.Closing.{closeOne}
+use Rattle.closings.specs.Closing.{Did, reseated, noting, recordOf, closeOne}
 use Rattle.lives.specs.Audit.{Frontend, unheld, heldBy, letGo, closedBy, notedBy, audited, Agree, Notes, opensAsOwner, joins, closes, Leads, begun, quiet, noted, LetGo, lets}
 use Rattle.lives.proofs.Keepers.{audited-more, isHolder}
 use Rattle.lives.proofs.Chains.{leads-agree, leads-then}

@@ -13,12 +13,10 @@ use Rattle.scan.specs.Lists.{all}
 use Rattle.aim.specs.declared.Method.the-variants.{Options, Teardown}
 use Rattle.refusals.specs.declared.Refusal.the-variants as refusal
 use Rattle.reader.specs.Request.{methodOf, requestRefusal}
-use Rattle.journal.specs.Bytes.{recordSize}
-use Rattle.journal.specs.Calls.{readAt}
+use Rattle.journal.specs.Records.{recordSize, readAt}
 use Rattle.journal.specs.declared.Record.{Record}
 use Rattle.journal.specs.declared.Reading.the-variants.{Sound}
-use Rattle.table.specs.Counts.{any, count}
-use Rattle.table.specs.Table.{isOpen, openCount, sessionAt, isOn, owns}
+use Rattle.table.specs.Table.{any, count, isOpen, openCount, sessionAt, isOn, owns}
 use Rattle.table.specs.Formed.{wellFormed}
 use Rattle.finding.specs.Finding.{isHeld}
 use Rattle.table.specs.Made.{fresh, numberIn}
@@ -26,12 +24,11 @@ use Rattle.table.specs.declared.Session.{Session}
 use Rattle.table.specs.declared.Settings.{Settings}
 use Rattle.table.specs.declared.SatBox.{SatBox}
 use Rattle.table.specs.declared.Outcome.the-variants.{Done}
-use Rattle.steps.specs.Asked.{askedOf, listsOf}
-use Rattle.steps.specs.Cases.{isPassed}
+use Rattle.steps.specs.Sights.{askedOf, listsOf}
+use Rattle.steps.specs.Steps.{isPassed}
 use Rattle.steps.specs.declared.cases.Case.the-variants.{Passed, Full}
-use Rattle.closings.specs.Did.{bytesOf, Did}
-use Rattle.closings.specs.Closing.{isExpired, atClock, sweeping}
-use Rattle.satbox.specs.Requests.{requested, replied}
+use Rattle.closings.specs.Closing.{bytesOf, Did, isExpired, atClock, sweeping}
+use Rattle.satbox.specs.Calls.{requested, replied}
 use Rattle.closings.proofs.DoesLaws.{bytes-append}
 use Rattle.closings.proofs.Keeping.{whole-formed}
 use Rattle.lives.specs.Calls.{Lent, Call, request, order, lacksJournal, isCall, Life, live, run, recordsOf, Lives, lifeAfter}
@@ -239,7 +236,7 @@ module _ (settings : Settings) (j : List ℕ) (cs : List Call) where
     pub collected-then-held : (past : List Record) × (x .history ≡ past ++ x .since) × (x .gathered ≡ bytesOf past)
     collected-then-held = let g = after-good h in (g .past, g .split, g .gathered)
 
-    -- and whoever has these bytes has the history: read at each place (`journal/specs/Calls.readAt`), they are its records
+    -- and whoever has these bytes has the history: read at each place (`journal/specs/Records.readAt`), they are its records
     pub history-is-read-back : (i : ℕ) (past : Record) → i < length (x .history)
         → readAt (x .gathered ++ take (x .satbox .held) (x .journal)) i ≡ Sound (getD (x .history) i past)
     history-is-read-back i past l =

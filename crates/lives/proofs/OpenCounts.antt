@@ -10,13 +10,12 @@ use lib.ListN.{length, set, List·getD-eq-default}
 use borrow.Author.Tests.{eq-eqb, ne-eqb}
 use Rattle.scan.proofs.Bools.{by-cases}
 use Rattle.journal.specs.declared.Record.{Record}
-use Rattle.table.specs.Counts.{count}
+use Rattle.table.specs.Table.{count}
 use Rattle.table.specs.Table.{noSession, isOpen, openCount as openIn, sessionAt}
 use Rattle.table.specs.declared.Session.{Session}
 use Rattle.table.specs.declared.SatBox.{SatBox}
 use Rattle.table.proofs.Counts.{count-set, count-set-same}
-use Rattle.closings.specs.Did.{Did, restreamed, reseated, noting}
-use Rattle.closings.specs.Closing.{closeOne, atClock}
+use Rattle.closings.specs.Closing.{Did, restreamed, reseated, noting, closeOne, atClock}
 use Rattle.satbox.specs.Calls.{emptied}
 use Rattle.serving.specs.Serving.{withSession}
 use Rattle.lives.specs.Closed.{saysClosed, saysOpened}

@@ -9,9 +9,7 @@ use lib.Seq.{take-at, drop-append-add}
 use borrow.Author.Tests.{eq-eqb, lt-ltb, ltb-true}
 use Rattle.scan.specs.Lists.{all, part}
 use Rattle.scan.proofs.Bools.{and-both}
-use Rattle.journal.specs.Records.{isRecord}
-use Rattle.journal.specs.Bytes.{encoded}
-use Rattle.journal.specs.Calls.{readBytes, readAt, writeOf}
+use Rattle.journal.specs.Records.{isRecord, encoded, readBytes, readAt, writeOf}
 use Rattle.journal.specs.declared.Record.{Record}
 use Rattle.journal.specs.declared.Reading.the-variants.{Sound}
 use Rattle.journal.proofs.RoundTrip.{Fitting, written-read}
@@ -20,10 +18,8 @@ use Rattle.table.specs.Table.{noSession, sessionAt}
 use Rattle.table.specs.declared.Session.{Session}
 use Rattle.table.specs.declared.Outcome.{Outcome}
 use Rattle.table.specs.declared.Outcome.the-variants.{Done, Refused}
-use Rattle.closings.specs.Did.{Did, bytesOf}
-use Rattle.closings.specs.Closing.{sweeping}
-use Rattle.satbox.specs.Calls.{ifDone, tickOutcome, ticked, collectOutcome, emptied, collected}
-use Rattle.satbox.specs.Requests.{requestOutcome, requested, replied}
+use Rattle.closings.specs.Closing.{Did, bytesOf, sweeping}
+use Rattle.satbox.specs.Calls.{ifDone, tickOutcome, ticked, collectOutcome, emptied, collected, requestOutcome, requested, replied}
 use Rattle.closings.proofs.DoesLaws.{bytes-length}
 use Rattle.serving.proofs.RecordLaws.{Counts-on}
 use Rattle.lives.specs.Calls.{lent, Call, request, tick, collect, order, isShort, isCall, Life, live, run, Lives, lifeAfter}

@@ -6,12 +6,10 @@ use Prim.Native.Nat.{ℕ, suc}
 use native.Mathlib.Omega.{arith}
 use lib.Dec.{ltb}
 use lib.ListN.{length}
-use Rattle.scan.specs.Classes.{isBetween}
-use Rattle.scan.specs.Lists.{first}
+use Rattle.scan.specs.Lists.{isBetween, first}
 use Rattle.scan.proofs.Bools.{never, cond-keeps}
 use Rattle.stream.specs.Values.{areComplete}
-use Rattle.table.specs.Counts.{any}
-use Rattle.table.specs.Table.{streamOf}
+use Rattle.table.specs.Table.{any, streamOf}
 use Rattle.table.specs.Formed.{wellFormed}
 use Rattle.table.specs.declared.SatBox.{SatBox}
 use Rattle.table.specs.declared.Refusal.{Refusal}
@@ -21,8 +19,7 @@ use Rattle.table.specs.declared.Outcome.the-variants.{Done, Refused}
 use Rattle.orders.specs.Orders.{playsAsOwner, orderAt, orderFor, orderOf}
 use Rattle.orders.proofs.OrderLaws.{isFed}
 use Rattle.orders.specs.declared.Order.{Order}
-use Rattle.satbox.specs.Calls.{_else_andThen_, isJournal, ticked, collected}
-use Rattle.satbox.specs.Requests.{replied}
+use Rattle.satbox.specs.Calls.{_else_andThen_, isJournal, ticked, collected, replied}
 use Rattle.lives.specs.Calls.{lent, Call, request, tick, collect, order, orderOutcome, lacksJournal, Life, live}
 use Rattle.table.specs.Made.{numberIn}
 

@@ -16,14 +16,11 @@ use Rattle.stream.proofs.Keeping.{merge-frontend}
 use Rattle.table.specs.Table.{sessionAt, streamOf}
 use Rattle.table.specs.declared.Session.{Session}
 use Rattle.table.specs.declared.SatBox.{SatBox}
-use Rattle.steps.specs.Asked.{Asked, Lists, askedOf, listsOf}
-use Rattle.steps.specs.Sights.{sightOf}
+use Rattle.steps.specs.Sights.{Asked, Lists, askedOf, listsOf, sightOf}
 use Rattle.steps.specs.Steps.{isSetup, looksUp, isNamed}
-use Rattle.closings.specs.Did.{Did, nothing, restreamed}
+use Rattle.closings.specs.Closing.{Did, nothing, restreamed, closing}
 use Rattle.closings.specs.Does.{Closable}
-use Rattle.closings.specs.Closing.{closing}
-use Rattle.serving.specs.Opening.{joining, opening}
-use Rattle.serving.specs.Serving.{merging, merges, withSession, refreshed, seatAfter, Serving, keeping, retuning, seating, grant, clientOf, answered}
+use Rattle.serving.specs.Serving.{joining, opening, merging, merges, withSession, refreshed, seatAfter, Serving, keeping, retuning, seating, grant, clientOf, answered}
 use Rattle.serving.specs.declared.opening.Client.{Client}
 use Rattle.closings.proofs.Keeping.{Whole}
 use Rattle.serving.proofs.Passing.{Untested, named-needed, own-live}

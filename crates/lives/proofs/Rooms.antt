@@ -15,14 +15,12 @@ use Rattle.reader.specs.Request.{requestRefusal}
 use Rattle.table.specs.Table.{openCount, streamOf, isLive}
 use Rattle.table.specs.declared.Settings.{Settings}
 use Rattle.table.specs.declared.SatBox.{SatBox}
-use Rattle.steps.specs.Asked.{Asked, Lists, askedOf, listsOf}
-use Rattle.steps.specs.Sights.{sightOf}
+use Rattle.steps.specs.Sights.{Asked, Lists, askedOf, listsOf, sightOf}
 use Rattle.steps.specs.Steps.{isSetup}
 use Rattle.steps.specs.Tests.{namesDead}
 use Rattle.steps.specs.declared.cases.Case.{Case}
 use Rattle.steps.specs.declared.cases.Case.the-variants.{Passed, Full}
-use Rattle.serving.specs.Opening.{hasRoom}
-use Rattle.serving.specs.Serving.{canSeat, caseOf, Serving, served, clientOf, answered}
+use Rattle.serving.specs.Serving.{hasRoom, canSeat, caseOf, Serving, served, clientOf, answered}
 use Rattle.serving.specs.declared.opening.Client.{Client}
 use Rattle.serving.proofs.Passing.{untested}
 use Rattle.satbox.proofs.RequestLaws.{grant-passes}

@@ -15,8 +15,7 @@ use Rattle.table.specs.declared.Refusal.the-variants.{Table, Journal}
 use Rattle.table.specs.declared.Outcome.{Outcome}
 use Rattle.table.specs.declared.Outcome.the-variants.{Refused}
 use Rattle.closings.specs.Closing.{sweeping, atClock}
-use Rattle.satbox.specs.Calls.{_else_andThen_, isJournal, tickOutcome, ticked, tickedJournal, collectOutcome, collected, collectedInto}
-use Rattle.satbox.specs.Requests.{requestOutcome, requested, replied, repliedJournal}
+use Rattle.satbox.specs.Calls.{_else_andThen_, isJournal, tickOutcome, ticked, tickedJournal, collectOutcome, collected, collectedInto, requestOutcome, requested, replied, repliedJournal}
 use Rattle.closings.proofs.Closings.{swept-fine}
 use Rattle.closings.proofs.Keeping.{Whole, whole-roomy, clock-whole}
 use Rattle.satbox.proofs.Kept.{sweeping-whole, collect-whole}

@@ -13,8 +13,7 @@ use Rattle.scan.proofs.Bools.{and-both, Case, is, isnt, case}
 use Rattle.journal.specs.declared.Record.{Record}
 use Rattle.stream.specs.Streams.{pastStream}
 use Rattle.stream.specs.declared.Stream.{Stream}
-use Rattle.table.specs.Counts.{any, count}
-use Rattle.table.specs.Table.{noSession, isFree, sessionAt, streamOf, isDead, isOn}
+use Rattle.table.specs.Table.{any, count, noSession, isFree, sessionAt, streamOf, isDead, isOn}
 use Rattle.table.proofs.Ids.{streamIn}
 use Rattle.finding.specs.Finding.{lowestPlace, lowestId}
 use Rattle.table.specs.declared.Session.{Session}
@@ -22,8 +21,8 @@ use Rattle.table.specs.declared.SatBox.{SatBox}
 use Rattle.table.proofs.Counts.{count-zero-at, first-passes}
 use Rattle.table.proofs.Rules.{fed}
 use Rattle.finding.proofs.Draws.{drawn-nonzero}
-use Rattle.closings.specs.Did.{restreamed, reseated, noting, recordOf}
-use Rattle.serving.specs.Opening.{hasPlace, guest, seatingAs, canJoin, canOpen}
+use Rattle.closings.specs.Closing.{restreamed, reseated, noting, recordOf}
+use Rattle.serving.specs.Serving.{hasPlace, guest, seatingAs, canJoin, canOpen}
 use Rattle.serving.specs.declared.opening.Client.{Client}
 use Rattle.closings.proofs.Keeping.{Whole}
 use Rattle.serving.proofs.OpeningKeeps.{new-feed, row}

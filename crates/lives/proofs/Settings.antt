@@ -9,13 +9,11 @@ use Rattle.table.specs.declared.Session.{Session}
 use Rattle.table.specs.declared.SatBox.{SatBox}
 use Rattle.table.specs.declared.Outcome.{Outcome}
 use Rattle.table.specs.declared.Outcome.the-variants.{Done, Refused}
-use Rattle.closings.specs.Did.{Did, nothing, restreamed, reseated, noting}
+use Rattle.closings.specs.Closing.{Did, nothing, restreamed, reseated, noting, closing, sweeping, atClock}
 use Rattle.closings.specs.Does.{Closable}
-use Rattle.closings.specs.Closing.{closing, sweeping, atClock}
-use Rattle.serving.specs.Opening.{guest, seatingAs as seated, canJoin, joining, canOpen, opening}
+use Rattle.serving.specs.Serving.{guest, seatingAs as seated, canJoin, joining, canOpen, opening}
 use Rattle.serving.specs.Serving.{withSession, answered}
-use Rattle.satbox.specs.Calls.{ifDone, tickOutcome, emptied, ticked, collectOutcome, collected}
-use Rattle.satbox.specs.Requests.{requestOutcome, requested, replied}
+use Rattle.satbox.specs.Calls.{ifDone, tickOutcome, emptied, ticked, collectOutcome, collected, requestOutcome, requested, replied}
 use Rattle.serving.specs.declared.opening.Client.{Client}
 use Rattle.closings.proofs.Closings.{closing-fine, swept-fine}
 use Rattle.closings.proofs.Keeping.{Whole, whole-roomy, clock-whole}

@@ -9,8 +9,7 @@ use Rattle.table.specs.Table.{noSession, isOpen, sessionAt, isOn, owns}
 use Rattle.table.specs.declared.Session.{Session}
 use Rattle.table.specs.declared.SatBox.{SatBox}
 use Rattle.table.proofs.Changes.{opened}
-use Rattle.closings.specs.Did.{Did}
-use Rattle.closings.specs.Closing.{isExpired, swept}
+use Rattle.closings.specs.Closing.{Did, isExpired, swept}
 use Rattle.closings.proofs.Keeping.{Whole}
 use Rattle.lives.specs.Closed.{Closed}
 use Rattle.lives.proofs.Fates.{Fate, stays, leaves, Fates, noted-as, upto-fates}

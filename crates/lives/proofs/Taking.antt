@@ -13,15 +13,13 @@ use Rattle.scan.specs.Lists.{first}
 use Rattle.scan.proofs.Bools.{never, and-both, both, or-second, or-right, by-cases, Case, is, isnt, case, Same, same, other, sames, cond-keeps}
 use Rattle.journal.specs.declared.Record.{Record}
 use Rattle.stream.specs.Streams.{noStream, pastStream}
-use Rattle.table.specs.Counts.{count}
-use Rattle.table.specs.Table.{noSession, hasNumber, isOpen, sessionAt, streamOf, isOn, owns}
+use Rattle.table.specs.Table.{count, noSession, hasNumber, isOpen, sessionAt, streamOf, isOn, owns}
 use Rattle.table.specs.declared.Session.{Session}
 use Rattle.table.specs.declared.SatBox.{SatBox}
 use Rattle.table.proofs.Counts.{bit-yes, bit-no, count-set, count-zero-at, getD-set-here}
 use Rattle.table.proofs.Changes.{opened, seated-live}
-use Rattle.closings.specs.Did.{Did, nothing, then, upto, reseated, noting}
+use Rattle.closings.specs.Closing.{Did, nothing, then, upto, reseated, noting, closeOne, closeOn, cascade, closing}
 use Rattle.closings.specs.Does.{Closable}
-use Rattle.closings.specs.Closing.{closeOne, closeOn, cascade, closing}
 use Rattle.closings.proofs.Closings.{free}
 use Rattle.closings.proofs.Keeping.{Whole, owner-sessions, owner-streams}
 use Rattle.lives.specs.Closed.{takes, closingOf, unnumbered, inOrder, closingsAt}

@@ -10,12 +10,10 @@ use Rattle.reader.specs.Request.{methodOf}
 use Rattle.table.specs.Table.{isOpen, sessionAt, isOn}
 use Rattle.table.specs.declared.SatBox.{SatBox}
 use Rattle.table.proofs.Changes.{opened}
-use Rattle.steps.specs.Asked.{Asked, Lists, askedOf, listsOf}
-use Rattle.steps.specs.Sights.{sightOf}
-use Rattle.steps.specs.Cases.{isPassed}
-use Rattle.closings.specs.Did.{Did}
+use Rattle.steps.specs.Sights.{Asked, Lists, askedOf, listsOf, sightOf}
+use Rattle.steps.specs.Steps.{isPassed}
+use Rattle.closings.specs.Closing.{Did, closing}
 use Rattle.closings.specs.Does.{Closable}
-use Rattle.closings.specs.Closing.{closing}
 use Rattle.serving.specs.Serving.{Serving, served, clientOf, answered}
 use Rattle.serving.specs.declared.opening.Client.{Client}
 use Rattle.closings.proofs.Keeping.{Whole}

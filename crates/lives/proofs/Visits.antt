@@ -15,8 +15,7 @@ use Rattle.table.specs.declared.Session.{Session}
 use Rattle.table.specs.declared.SatBox.{SatBox}
 use Rattle.table.proofs.Counts.{first-passes}
 use Rattle.table.proofs.Changes.{opened}
-use Rattle.closings.specs.Did.{Did, nothing, then, upto}
-use Rattle.closings.specs.Closing.{closing, isExpired, sweepAt, swept}
+use Rattle.closings.specs.Closing.{Did, nothing, then, upto, closing, isExpired, sweepAt, swept}
 use Rattle.closings.proofs.Closings.{closable}
 use Rattle.closings.proofs.Keeping.{Whole, whole-roomy, sweepAt-whole}
 use Rattle.closings.proofs.Runs.{upto-keeps}

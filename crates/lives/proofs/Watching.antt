@@ -10,11 +10,10 @@ use Rattle.finding.specs.Finding.{lowestPlace, lowestId}
 use Rattle.table.specs.declared.Session.{Session}
 use Rattle.table.specs.declared.SatBox.{SatBox}
 use Rattle.finding.proofs.Draws.{drawn-nonzero}
-use Rattle.closings.specs.Did.{nothing, restreamed}
-use Rattle.closings.specs.Closing.{sweeping}
-use Rattle.serving.specs.Opening.{hasPlace, guest, seatingAs as seated, canJoin, joining, canOpen, opening}
+use Rattle.closings.specs.Closing.{nothing, restreamed, sweeping}
+use Rattle.serving.specs.Serving.{hasPlace, guest, seatingAs as seated, canJoin, joining, canOpen, opening}
 use Rattle.serving.specs.Serving.{withSession, answered}
-use Rattle.satbox.specs.Requests.{requested}
+use Rattle.satbox.specs.Calls.{requested}
 use Rattle.serving.specs.declared.opening.Client.{Client}
 use Rattle.closings.proofs.Keeping.{Whole}
 use Rattle.satbox.proofs.Kept.{sweeping-whole}

@@ -17,13 +17,11 @@ use Rattle.table.specs.declared.SatBox.{SatBox}
 use Rattle.table.specs.declared.Outcome.{Outcome}
 use Rattle.table.specs.declared.Outcome.the-variants.{Done, Refused}
 use Rattle.table.proofs.Counts.{getD-set-all}
-use Rattle.closings.specs.Did.{Did, nothing, restreamed, reseated, noting}
+use Rattle.closings.specs.Closing.{Did, nothing, restreamed, reseated, noting, isExpired, closing, sweeping, atClock}
 use Rattle.closings.specs.Does.{Closable}
-use Rattle.closings.specs.Closing.{isExpired, closing, sweeping, atClock}
-use Rattle.serving.specs.Opening.{guest, seatingAs as seated, canJoin, joining, canOpen, opening}
-use Rattle.satbox.specs.Calls.{ifDone, tickOutcome, ticked, collectOutcome, collected, emptied}
+use Rattle.serving.specs.Serving.{guest, seatingAs as seated, canJoin, joining, canOpen, opening}
+use Rattle.satbox.specs.Calls.{ifDone, tickOutcome, ticked, collectOutcome, collected, emptied, requestOutcome, requested, replied}
 use Rattle.serving.specs.Serving.{withSession, answered}
-use Rattle.satbox.specs.Requests.{requestOutcome, requested, replied}
 use Rattle.serving.specs.declared.opening.Client.{Client}
 use Rattle.closings.proofs.Keeping.{Whole, clock-whole}
 use Rattle.satbox.proofs.Kept.{sweeping-whole}

@@ -7,12 +7,10 @@ use lib.Dec.{eqb}
 use lib.ListN.{length}
 use Rattle.journal.specs.declared.Record.{Record}
 use Rattle.stream.specs.declared.Stream.{Stream}
-use Rattle.table.specs.Counts.{any, count}
-use Rattle.table.specs.Table.{hasNumber, streamOf, owns, sessionAt, isOn}
+use Rattle.table.specs.Table.{any, count, hasNumber, streamOf, owns, sessionAt, isOn}
 use Rattle.table.specs.declared.SatBox.{SatBox}
 use Rattle.table.specs.declared.Session.{Session}
-use Rattle.closings.specs.Did.{Did, restreamed, noting}
-use Rattle.closings.specs.Closing.{closeOne, atClock}
+use Rattle.closings.specs.Closing.{Did, restreamed, noting, closeOne, atClock}
 use Rattle.serving.specs.Serving.{withSession}
 use Rattle.satbox.specs.Calls.{emptied}
 use Rattle.lives.specs.Closed.{saysClosed}

@@ -17,8 +17,7 @@ use Rattle.orders.specs.Orders.{orderOf}
 use Rattle.orders.specs.declared.Ordered.{Ordered}
 use Rattle.orders.specs.declared.Ordered.the-variants.{On, Off, Refused as Unordered}
 use Rattle.closings.specs.Closing.{sweeping}
-use Rattle.satbox.specs.Calls.{ifDone, ticked, tickedJournal, collected, collectedInto}
-use Rattle.satbox.specs.Requests.{requested, replied, repliedJournal}
+use Rattle.satbox.specs.Calls.{ifDone, ticked, tickedJournal, collected, collectedInto, requested, replied, repliedJournal}
 
 -- the journal that a call is lent: the box's own, as the call before left it, or some other bytes
 pub data Lent : Type 0 where

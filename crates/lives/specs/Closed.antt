@@ -11,20 +11,15 @@ use Rattle.lines.specs.Headers.{valuesOf}
 use Rattle.aim.specs.declared.Method.the-variants.{Options, Teardown}
 use Rattle.reader.specs.Fields.{sessionOf}
 use Rattle.reader.specs.Request.{methodOf}
-use Rattle.table.specs.Table.{hasNumber, sessionAt, isOn, owns, noSession, streamOf}
+use Rattle.table.specs.Table.{hasNumber, sessionAt, isOn, owns, noSession, streamOf, any}
 use Rattle.table.specs.declared.Session.{Session}
 use Rattle.table.specs.declared.SatBox.{SatBox}
-use Rattle.table.specs.Counts.{any}
-use Rattle.steps.specs.Sights.{sessionNumber, placeNamed, sightOf}
-use Rattle.steps.specs.Cases.{isPassed}
-use Rattle.steps.specs.Asked.{Asked, Lists}
-use Rattle.steps.specs.Steps.{tableCase}
+use Rattle.steps.specs.Sights.{sessionNumber, placeNamed, sightOf, Asked, Lists}
+use Rattle.steps.specs.Steps.{isPassed, tableCase}
 use Rattle.steps.specs.declared.cases.Case.the-variants.{Passed}
-use Rattle.closings.specs.Did.{recordOf}
-use Rattle.closings.specs.Closing.{isExpired, sweeping}
-use Rattle.serving.specs.Opening.{hasPlace, hasFrontend}
-use Rattle.serving.specs.Serving.{feedOf, merging, merges, mergeCase, isOpening}
-use Rattle.satbox.specs.Requests.{requested}
+use Rattle.closings.specs.Closing.{recordOf, isExpired, sweeping}
+use Rattle.serving.specs.Serving.{hasPlace, hasFrontend, feedOf, merging, merges, mergeCase, isOpening}
+use Rattle.satbox.specs.Calls.{requested}
 use Rattle.lives.specs.Calls.{Lent, Call, request, tick}
 
 -- the session r, where it closes, takes the session s along: s is r, or is on the stream that r owns

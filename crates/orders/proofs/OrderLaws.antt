@@ -6,14 +6,12 @@ use native.Mathlib.Omega.{arith}
 use lib.Dec.{eqb, ltb}
 use lib.ListN.{length, getD}
 use borrow.Author.Tests.{lt-ltb, le-ltb, le-leb, lt-leb, ne-eqb, eqb-false, ltb-true, ltb-false}
-use Rattle.scan.specs.Classes.{isBetween}
-use Rattle.scan.specs.Lists.{first}
+use Rattle.scan.specs.Lists.{isBetween, first}
 use Rattle.scan.specs.Found.{FirstOf}
 use Rattle.scan.proofs.Bools.{Same, same, other, sames, or-neither}
 use Rattle.stream.specs.Streams.{pastStream}
 use Rattle.stream.specs.Values.{areComplete}
-use Rattle.table.specs.Counts.{any}
-use Rattle.table.specs.Table.{streamOf}
+use Rattle.table.specs.Table.{any, streamOf}
 use Rattle.table.specs.Formed.{wellFormed}
 use Rattle.table.specs.declared.SatBox.{SatBox}
 use Rattle.orders.specs.Orders.{playsAsOwner, off, orderAt, orderFor, orderOf}

@@ -3,12 +3,10 @@ use Prim.Native.Nat.{ℕ, suc}
 use mathlib.Core.Bool.{Bool, not, cond, _&&_}
 use lib.Dec.{eqb, ltb}
 use lib.ListN.{length}
-use Rattle.scan.specs.Classes.{isBetween}
-use Rattle.scan.specs.Lists.{first}
+use Rattle.scan.specs.Lists.{isBetween, first}
 use Rattle.stream.specs.Streams.{noStream}
 use Rattle.stream.specs.Values.{areComplete}
-use Rattle.table.specs.Counts.{any}
-use Rattle.table.specs.Table.{streamOf, owns}
+use Rattle.table.specs.Table.{any, streamOf, owns}
 use Rattle.table.specs.Formed.{wellFormed}
 use Rattle.table.specs.declared.Session.{Session}
 use Rattle.table.specs.declared.SatBox.{SatBox}

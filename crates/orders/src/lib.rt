@@ -2,7 +2,7 @@
 ghost use mathlib.Core.Path.{_≡_};
 ghost use mathlib.Core.Bool.{cond};
 ghost use lib.Dec.{eqb};
-ghost use Rattle.scan.specs.Classes.{isBetween};
+ghost use Rattle.scan.specs.Lists.{isBetween};
 ghost use Rattle.scan.specs.Found.{FirstOf};
 ghost use Rattle.stream.specs.declared.Stream.{Stream};
 ghost use Rattle.table.specs.Formed.{wellFormed};

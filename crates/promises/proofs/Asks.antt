@@ -4,10 +4,10 @@ use mathlib.Core.List.{List, [], _∷_}
 use Rattle.scan.specs.Text.{text, _&_}
 use Rattle.table.specs.Made.{settingsOf, fresh}
 use Rattle.table.specs.declared.SatBox.{SatBox}
-use Rattle.steps.specs.Cases.{ruleOf}
+use Rattle.steps.specs.Steps.{ruleOf}
 use Rattle.steps.specs.declared.cases.Case.{Case}
 use Rattle.serving.specs.Serving.{Serving}
-use Rattle.satbox.specs.Requests.{requested}
+use Rattle.satbox.specs.Calls.{requested}
 
 -- THE REQUESTS: document 01's example
 abbrev pub example : List ℕ

@@ -18,18 +18,17 @@ use Rattle.refusals.specs.Refusals.{isRead}
 use Rattle.refusals.specs.declared.Refusal.{Refusal}
 use Rattle.refusals.specs.declared.Refusal.the-variants.{Passed}
 use Rattle.reader.specs.Request.{uriOf, requestRefusal}
-use Rattle.table.specs.Counts.{any}
-use Rattle.table.specs.Table.{hasNumber}
+use Rattle.table.specs.Table.{any, hasNumber}
 use Rattle.finding.specs.Finding.{drawn}
 use Rattle.finding.proofs.Draws.{isTaken, nextNumber, drawnFrom}
 use Rattle.table.specs.declared.Session.{Session}
 use Rattle.table.specs.declared.SatBox.{SatBox}
-use Rattle.steps.specs.Asked.{Asked, Lists, codesIn, askedOf, listsOf}
+use Rattle.steps.specs.Sights.{Asked, Lists, codesIn, askedOf, listsOf}
 use Rattle.steps.specs.declared.cases.Case.{Case}
 use Rattle.steps.specs.declared.cases.Case.the-variants.{Reading}
 use Rattle.closings.specs.Closing.{sweeping}
 use Rattle.serving.specs.Serving.{served, clientOf, answered}
-use Rattle.satbox.specs.Requests.{requested}
+use Rattle.satbox.specs.Calls.{requested}
 use Rattle.serving.specs.declared.opening.Client.{Client}
 use Rattle.aim.proofs.QueryLaws.{code-among}
 

@@ -7,8 +7,7 @@ use mathlib.Core.List.{List, [], _∷_, _++_, map}
 use native.Mathlib.Omega.{arith}
 use lib.ListN.{length, drop, replicate}
 use borrow.Author.Tests.{le-leb, lt-leb}
-use Rattle.scan.specs.Text.{text, _&_}
-use Rattle.scan.specs.Words.{placeAmong}
+use Rattle.scan.specs.Text.{text, _&_, placeAmong}
 use Rattle.digits.specs.Reading.{readNumber, readHex8}
 use Rattle.writing.specs.Writing.{decimal, hex8, dotted, width, numeral, written}
 use Rattle.lines.specs.Lines.{isLaidOut, requestLine, headerLines}
@@ -23,15 +22,13 @@ use Rattle.reader.specs.Fields.{sessionOf, transportOf}
 use Rattle.reader.specs.Request.{cseqOf, headRefusal, requestRefusal, methodOf}
 use Rattle.reader.specs.declared.fields.Session.the-variants.{Absent}
 use Rattle.reader.specs.declared.fields.Transport.the-variants.{Other, Port}
-use Rattle.journal.specs.Bytes.{encoded}
+use Rattle.journal.specs.Records.{encoded}
 use Rattle.journal.specs.declared.Record.{Record}
 use Rattle.stream.specs.Values.{areNone, areInRange, goTogether, merged}
 use Rattle.stream.specs.Pids.{numbersIn, replaced as listed, chosen, isChoice}
-use Rattle.stream.specs.Streams.{noStream, areZero, isSound}
-use Rattle.stream.specs.Merging.{changed, mergeOf}
+use Rattle.stream.specs.Streams.{noStream, areZero, isSound, changed, mergeOf}
 use Rattle.stream.specs.declared.Stream.{Stream}
-use Rattle.table.specs.Counts.{any}
-use Rattle.table.specs.Table.{noSession, hasNumber, isOpen, openCount}
+use Rattle.table.specs.Table.{any, noSession, hasNumber, isOpen, openCount}
 use Rattle.table.specs.Formed.{isSeated, isBlank, wellFormed}
 use Rattle.finding.specs.Finding.{lowestFrontend, drawn}
 use Rattle.finding.proofs.Draws.{drawnFrom, drawn-new, drawn-nonzero}
@@ -40,17 +37,14 @@ use Rattle.table.specs.declared.Session.{Session}
 use Rattle.table.specs.declared.SatBox.{SatBox}
 use Rattle.table.specs.declared.Outcome.the-variants.{Done}
 use Rattle.answer.specs.Lines.{reasonOf}
-use Rattle.steps.specs.Asked.{Asked, Lists, codesIn}
-use Rattle.steps.specs.Sights.{sightOf}
+use Rattle.steps.specs.Sights.{Asked, Lists, codesIn, sightOf}
 use Rattle.steps.specs.Steps.{tableCase}
 use Rattle.steps.specs.Replies.{replyText}
 use Rattle.steps.specs.declared.cases.Case.{Case}
 use Rattle.steps.specs.declared.cases.Case.the-variants.{Reading, Transport, TooManyPids}
-use Rattle.closings.specs.Did.{nothing, upto, restreamed, reseated, noting, bytesOf}
-use Rattle.closings.specs.Closing.{isExpired, closeOne, closeOn, cascade, closing, sweepAt, swept, atClock, sweeping}
-use Rattle.serving.specs.Opening.{seatingAs, joining, opening}
-use Rattle.serving.specs.Serving.{merging, caseOf, withSession, served, answered}
-use Rattle.satbox.specs.Requests.{requested, answerOf, requestOutcome, repliedInto, repliedJournal}
+use Rattle.closings.specs.Closing.{nothing, upto, restreamed, reseated, noting, bytesOf, isExpired, closeOne, closeOn, cascade, closing, sweepAt, swept, atClock, sweeping}
+use Rattle.serving.specs.Serving.{seatingAs, joining, opening, merging, caseOf, withSession, served, answered}
+use Rattle.satbox.specs.Calls.{requested, answerOf, requestOutcome, repliedInto, repliedJournal}
 use Rattle.serving.specs.declared.opening.Client.{Client}
 use Rattle.promises.proofs.Asks.{example, exampleAnswer, setupAt, setup, join, play, teardown, box, home, verdictOf, verdict, passes, ask, run, after}
 use Rattle.promises.proofs.EdgeLaws.{drawn-first, RefusedAs, ReadsAs, refused-alike, served-alike}

@@ -23,12 +23,11 @@ use Rattle.stream.specs.Values.{areComplete}
 use Rattle.table.specs.Table.{sessionAt, streamOf}
 use Rattle.table.specs.declared.SatBox.{SatBox}
 use Rattle.table.proofs.Changes.{seated-live}
-use Rattle.steps.specs.Asked.{Asked, codesIn, askedOf, listsOf}
-use Rattle.steps.specs.Sights.{placeNamed, sightOf}
+use Rattle.steps.specs.Sights.{Asked, codesIn, askedOf, listsOf, placeNamed, sightOf}
 use Rattle.steps.specs.Steps.{tableCase}
 use Rattle.steps.specs.declared.cases.Case.the-variants.{Passed}
 use Rattle.serving.specs.Serving.{Serving, clientOf, answered}
-use Rattle.satbox.specs.Requests.{answerOf}
+use Rattle.satbox.specs.Calls.{answerOf}
 use Rattle.orders.specs.Orders.{orderAt, orderFor}
 use Rattle.orders.specs.declared.Ordered.the-variants.{On, Off}
 use Rattle.closings.proofs.Keeping.{Whole}

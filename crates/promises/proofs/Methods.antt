@@ -15,8 +15,7 @@ use Rattle.scan.proofs.Bools.{never, and-both}
 use Rattle.aim.specs.declared.Method.{Method}
 use Rattle.aim.specs.declared.Method.the-variants.{Options, Setup, Play, Teardown, Other}
 use Rattle.reader.specs.Request.{methodOf}
-use Rattle.stream.specs.Streams.{noStream, pastStream, blank}
-use Rattle.stream.specs.Merging.{mergeOf}
+use Rattle.stream.specs.Streams.{noStream, pastStream, blank, mergeOf}
 use Rattle.stream.specs.declared.Stream.{Stream}
 use Rattle.stream.specs.declared.Change.{Change}
 use Rattle.table.specs.Table.{noSession, sessionAt, streamOf, withStream, isDead, isOn}
@@ -25,14 +24,10 @@ use Rattle.finding.specs.Finding.{lowestPlace, lowestId, drawn}
 use Rattle.table.specs.declared.Session.{Session}
 use Rattle.table.specs.declared.SatBox.{SatBox}
 use Rattle.table.proofs.Changes.{clear, seated-live}
-use Rattle.steps.specs.Asked.{Asked, Lists, askedOf, listsOf}
-use Rattle.steps.specs.Sights.{portOf, placeNamed, sightOf}
-use Rattle.steps.specs.Cases.{isPassed}
-use Rattle.steps.specs.Steps.{looksUp, isNamed}
-use Rattle.closings.specs.Did.{restreamed, reseated, noting}
-use Rattle.closings.specs.Closing.{closeOne, closing}
-use Rattle.serving.specs.Opening.{hasPlace, seatingAs, joining, canOpen, opening}
-use Rattle.serving.specs.Serving.{merging, merges, withSession, seatAfter, retuned, Serving, grant, clientOf, answered}
+use Rattle.steps.specs.Sights.{Asked, Lists, askedOf, listsOf, portOf, placeNamed, sightOf}
+use Rattle.steps.specs.Steps.{isPassed, looksUp, isNamed}
+use Rattle.closings.specs.Closing.{restreamed, reseated, noting, closeOne, closing}
+use Rattle.serving.specs.Serving.{hasPlace, seatingAs, joining, canOpen, opening, merging, merges, withSession, seatAfter, retuned, Serving, grant, clientOf, answered}
 use Rattle.serving.specs.Turns.{takesQuery}
 use Rattle.serving.specs.declared.opening.Client.{Client}
 use Rattle.closings.proofs.Closings.{closing-fine}

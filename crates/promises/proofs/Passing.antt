@@ -9,18 +9,15 @@ use Rattle.aim.specs.declared.Method.the-variants.{Setup, Teardown}
 use Rattle.stream.specs.declared.Outcome.{Outcome}
 use Rattle.stream.specs.declared.Outcome.the-variants.{Merged, Combination as Clash, TooMany}
 use Rattle.table.specs.declared.SatBox.{SatBox}
-use Rattle.steps.specs.Asked.{Asked, Lists}
-use Rattle.steps.specs.Sights.{sightOf}
-use Rattle.steps.specs.Cases.{isPassed}
-use Rattle.steps.specs.Steps.{isSetup, isNamed, tableCase}
+use Rattle.steps.specs.Sights.{Asked, Lists, sightOf}
+use Rattle.steps.specs.Steps.{isPassed, isSetup, isNamed, tableCase}
 use Rattle.steps.specs.Tests.{lacksPort}
 use Rattle.steps.specs.declared.Sight.{Sight}
 use Rattle.steps.specs.declared.cases.Case.{Case as Verdict}
 use Rattle.steps.specs.declared.cases.Case.the-variants.{Passed, Combination, TooManyPids, Full}
 use Rattle.steps.proofs.ReplyLaws.{unread-passed, table-unread}
 use Rattle.closings.specs.Does.{Closable}
-use Rattle.serving.specs.Opening.{canJoin, canOpen}
-use Rattle.serving.specs.Serving.{feedOf, merging, merges, mergeCase, isOpening, canSeat, caseOf, Serving, grant, denied, served}
+use Rattle.serving.specs.Serving.{canJoin, canOpen, feedOf, merging, merges, mergeCase, isOpening, canSeat, caseOf, Serving, grant, denied, served}
 use Rattle.serving.specs.Turns.{changeCase}
 use Rattle.serving.specs.declared.opening.Client.{Client}
 use Rattle.closings.proofs.Keeping.{Whole}

@@ -13,7 +13,7 @@ use Rattle.reader.specs.Fields.{transportOf}
 use Rattle.reader.specs.declared.fields.Transport.the-variants.{Port}
 use Rattle.table.specs.declared.SatBox.{SatBox}
 use Rattle.steps.proofs.Telling.{asked-fit, asked-port}
-use Rattle.satbox.specs.Requests.{requested, replied}
+use Rattle.satbox.specs.Calls.{requested, replied}
 use Rattle.closings.proofs.Keeping.{Whole}
 use Rattle.serving.proofs.Recorded.{Recorded}
 use Rattle.promises.proofs.Serving.{isPort}

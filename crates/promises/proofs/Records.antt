@@ -19,15 +19,11 @@ use Rattle.table.specs.Table.{noSession, streamOf, isDead}
 use Rattle.finding.specs.Finding.{lowestId}
 use Rattle.table.specs.declared.Session.{Session}
 use Rattle.table.specs.declared.SatBox.{SatBox}
-use Rattle.steps.specs.Asked.{Asked, Lists, askedOf, listsOf}
-use Rattle.steps.specs.Sights.{sightOf}
-use Rattle.steps.specs.Cases.{isPassed}
-use Rattle.steps.specs.Steps.{isNamed}
-use Rattle.closings.specs.Did.{Did, nothing, restreamed, noting, recordOf}
-use Rattle.closings.specs.Closing.{closing, sweeping}
-use Rattle.serving.specs.Opening.{guest, seatingAs, joining, opening}
-use Rattle.serving.specs.Serving.{merging, Serving, granted, grant, served, clientOf, answered}
-use Rattle.satbox.specs.Requests.{requested}
+use Rattle.steps.specs.Sights.{Asked, Lists, askedOf, listsOf, sightOf}
+use Rattle.steps.specs.Steps.{isPassed, isNamed}
+use Rattle.closings.specs.Closing.{Did, nothing, restreamed, noting, recordOf, closing, sweeping}
+use Rattle.serving.specs.Serving.{guest, seatingAs, joining, opening, merging, Serving, granted, grant, served, clientOf, answered}
+use Rattle.satbox.specs.Calls.{requested}
 use Rattle.serving.specs.declared.opening.Client.{Client}
 use Rattle.closings.proofs.Keeping.{Whole}
 use Rattle.serving.proofs.OpeningKeeps.{row}

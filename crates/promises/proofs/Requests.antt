@@ -10,13 +10,12 @@ use Rattle.refusals.specs.declared.Refusal.the-variants as refusal
 use Rattle.reader.specs.Request.{requestRefusal}
 use Rattle.reader.proofs.RequestLaws.{passed-is}
 use Rattle.table.specs.declared.SatBox.{SatBox}
-use Rattle.steps.specs.Asked.{askedOf, listsOf}
-use Rattle.steps.specs.Cases.{isPassed}
+use Rattle.steps.specs.Sights.{askedOf, listsOf}
+use Rattle.steps.specs.Steps.{isPassed}
 use Rattle.steps.specs.declared.cases.Case.the-variants.{Reading}
-use Rattle.closings.specs.Did.{did, nothing}
-use Rattle.closings.specs.Closing.{sweeping}
+use Rattle.closings.specs.Closing.{did, nothing, sweeping}
 use Rattle.serving.specs.Serving.{Serving, served, denied, clientOf, answered}
-use Rattle.satbox.specs.Requests.{requestOutcome, requested, replied}
+use Rattle.satbox.specs.Calls.{requestOutcome, requested, replied}
 use Rattle.closings.proofs.Keeping.{Whole}
 use Rattle.satbox.proofs.Kept.{done-keeps, sweeping-whole}
 use Rattle.promises.proofs.Serving.{Fit, served-whole, denied-still}

@@ -7,14 +7,13 @@ use native.Mathlib.Omega.{arith}
 use lib.Dec.{eqb, leb}
 use lib.ListN.{length-set}
 use borrow.Author.Tests.{ne-eqb, eqb-true, le-leb}
-use Rattle.scan.specs.Classes.{isBetween}
+use Rattle.scan.specs.Lists.{isBetween}
 use Rattle.scan.proofs.Bools.{never, and-both, cond-keeps}
 use Rattle.aim.specs.declared.Method.{Method}
 use Rattle.aim.specs.declared.Method.the-variants.{Options, Setup, Play, Teardown, Other}
 use Rattle.reader.specs.declared.fields.Transport.{Transport}
 use Rattle.reader.specs.declared.fields.Transport.the-variants.{Other as Missing, Port}
-use Rattle.stream.specs.Streams.{pastStream, blank, isSound}
-use Rattle.stream.specs.Merging.{mergeOf}
+use Rattle.stream.specs.Streams.{pastStream, blank, isSound, mergeOf}
 use Rattle.stream.specs.Arrays.{areFit}
 use Rattle.stream.specs.declared.Change.{Change}
 use Rattle.stream.proofs.Soundness.{blank-sound}
@@ -26,11 +25,9 @@ use Rattle.table.specs.declared.Session.{Session}
 use Rattle.table.specs.declared.SatBox.{SatBox}
 use Rattle.table.proofs.Counts.{count-set-same}
 use Rattle.table.proofs.Changes.{seats-alike, proper-set}
-use Rattle.steps.specs.Asked.{Asked, Lists}
-use Rattle.steps.specs.Sights.{portOf, sightOf}
-use Rattle.steps.specs.Steps.{isSetup, looksUp, isNamed}
-use Rattle.steps.specs.Cases.{isPassed}
-use Rattle.closings.specs.Did.{Did, nothing, restreamed}
+use Rattle.steps.specs.Sights.{Asked, Lists, portOf, sightOf}
+use Rattle.steps.specs.Steps.{isSetup, looksUp, isNamed, isPassed}
+use Rattle.closings.specs.Closing.{Did, nothing, restreamed}
 use Rattle.serving.specs.Serving.{merging, merges, withSession, refreshed, seatAfter, Serving, keeping, retuning, seating, grant, served}
 use Rattle.serving.specs.Turns.{atPort, playing}
 use Rattle.serving.specs.declared.opening.Client.{Client}

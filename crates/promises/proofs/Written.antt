@@ -14,15 +14,13 @@ use Rattle.aim.specs.declared.Method.the-variants.{Options, Setup, Play, Teardo
 use Rattle.stream.specs.declared.Stream.{Stream}
 use Rattle.finding.specs.Finding.{lowestId}
 use Rattle.table.specs.declared.SatBox.{SatBox}
-use Rattle.steps.specs.Asked.{Asked, Lists, askedOf, listsOf}
-use Rattle.steps.specs.Sights.{portOf, sightOf}
+use Rattle.steps.specs.Sights.{Asked, Lists, askedOf, listsOf, portOf, sightOf}
 use Rattle.steps.specs.Steps.{isNamed}
-use Rattle.closings.specs.Did.{Did, nothing, then, restreamed, reseated, noting}
+use Rattle.closings.specs.Closing.{Did, nothing, then, restreamed, reseated, noting, closing, sweeping, atClock}
 use Rattle.closings.specs.Does.{Closable}
-use Rattle.closings.specs.Closing.{closing, sweeping, atClock}
-use Rattle.serving.specs.Opening.{guest, seatingAs as seated, canJoin, joining, canOpen, opening}
+use Rattle.serving.specs.Serving.{guest, seatingAs as seated, canJoin, joining, canOpen, opening}
 use Rattle.serving.specs.Serving.{merging, merges, withSession, seatAfter, Serving, retuning, seating, grant, served, clientOf, answered}
-use Rattle.satbox.specs.Requests.{requested}
+use Rattle.satbox.specs.Calls.{requested}
 use Rattle.serving.specs.declared.opening.Client.{Client}
 use Rattle.closings.proofs.Closings.{closing-fine, swept-fine}
 use Rattle.closings.proofs.Keeping.{Whole, whole-roomy, clock-whole}

@@ -5,10 +5,9 @@ use mathlib.Core.List.{List}
 use Prim.Native.Nat.{ℕ, _+_, _≤_}
 use native.Mathlib.Omega.{arith}
 use lib.ListN.{length, drop, drop-of-length-le}
-use Rattle.scan.specs.Text.{text}
+use Rattle.scan.specs.Text.{text, is}
 use Rattle.scan.specs.Lists.{part}
 use Rattle.scan.specs.Found.{FirstOf}
-use Rattle.scan.specs.Cut.{is}
 use Rattle.scan.proofs.Parts.{part-rest}
 use Rattle.digits.specs.Reading.{readNumber, atLeast, readHex8}
 use Rattle.digits.specs.declared.Read.{Read}

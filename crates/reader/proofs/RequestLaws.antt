@@ -7,10 +7,9 @@ use native.Mathlib.Omega.{arith}
 use lib.Dec.{ltb, eqb}
 use lib.ListN.{length, getD}
 use borrow.Author.Tests.{lt-ltb, le-ltb, ne-eqb}
-use Rattle.scan.specs.Text.{text}
+use Rattle.scan.specs.Text.{text, areAlike}
 use Rattle.scan.specs.Lists.{part, _gives_or_}
 use Rattle.scan.specs.Found.{Holds}
-use Rattle.scan.specs.Compare.{areAlike}
 use Rattle.scan.specs.declared.Span.{Span}
 use Rattle.scan.specs.declared.Case.the-variants.{Counts}
 use Rattle.scan.proofs.Bools.{never}

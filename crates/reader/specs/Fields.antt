@@ -4,8 +4,7 @@ use mathlib.Core.Bool.{cond, _&&_}
 use mathlib.Core.List.{List, []}
 use lib.Dec.{eqb}
 use lib.ListN.{length, drop, getD}
-use Rattle.scan.specs.Text.{text}
-use Rattle.scan.specs.Cut.{before, after}
+use Rattle.scan.specs.Text.{text, before, after}
 use Rattle.digits.specs.Reading.{readNumber, atLeast, readHex8}
 use Rattle.digits.specs.declared.Read.{Read}
 use Rattle.digits.specs.declared.Read.the-variants.{Value, Nothing}

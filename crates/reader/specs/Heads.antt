@@ -37,10 +37,7 @@ use Rattle.refusals.specs.declared.Refusal.the-variants.{Passed, Require}
 use Rattle.aim.specs.declared.Method.the-variants.{Other, Options, Setup, Play, Teardown}
 use Rattle.reader.specs.declared.fields.Transport.the-variants.{Other as NoTransport}
 use Rattle.reader.specs.declared.Request.{Request}
-use Rattle.scan.specs.Cut.{is, before}
-use Rattle.scan.specs.Text.{text}
-use Rattle.scan.specs.Words.{placeAmong}
-use Rattle.scan.specs.Compare.{areAlike}
+use Rattle.scan.specs.Text.{is, before, text, areAlike, placeAmong}
 use Rattle.scan.specs.declared.Case.the-variants.{Counts}
 
 -- where the URI starts: behind the method and a space

@@ -4,9 +4,7 @@ use mathlib.Core.Bool.{Bool, not, cond, _||_}
 use mathlib.Core.List.{List, [], _∷_}
 use lib.Dec.{ltb, eqb}
 use lib.ListN.{length, getD}
-use Rattle.scan.specs.Text.{text}
-use Rattle.scan.specs.Compare.{areAlike}
-use Rattle.scan.specs.Words.{placeAmong}
+use Rattle.scan.specs.Text.{text, areAlike, placeAmong}
 use Rattle.scan.specs.declared.Case.the-variants.{Counts}
 use Rattle.digits.specs.Reading.{readNumber, isValue}
 use Rattle.digits.specs.declared.Read.{Read}

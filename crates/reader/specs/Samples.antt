@@ -3,8 +3,7 @@ use Prim.Native.Nat.{ℕ}
 use mathlib.Core.Path.{_≡_, refl}
 use mathlib.Core.List.{List, []}
 use lib.ListN.{length, replicate}
-use Rattle.scan.specs.Text.{text, _&_}
-use Rattle.scan.specs.Words.{placeAmong}
+use Rattle.scan.specs.Text.{text, _&_, placeAmong}
 use Rattle.digits.specs.Reading.{readNumber, readHex8}
 use Rattle.digits.specs.declared.Read.the-variants.{Value as Number, Nothing}
 use Rattle.lines.specs.Lines.{isLaidOut, requestLine, headerLines}

@@ -3,7 +3,7 @@
 use Prim.Native.Nat.{ℕ}
 use mathlib.Core.List.{List}
 use Rattle.table.specs.Made.{settingsOf, fresh}
-use Rattle.satbox.specs.Requests.{answerOf}
+use Rattle.satbox.specs.Calls.{answerOf}
 
 -- the answer to a request's bytes
 abbrev pub printed : List ℕ → List ℕ

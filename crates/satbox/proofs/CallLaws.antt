@@ -12,7 +12,7 @@ use Rattle.scan.proofs.Bools.{never}
 use Rattle.writing.specs.Wrote.{Wrote}
 use Rattle.writing.specs.Writing.{written}
 use Rattle.writing.proofs.Writes.{wrote-front, wrote-as}
-use Rattle.table.specs.Counts.{any}
+use Rattle.table.specs.Table.{any}
 use Rattle.table.specs.Formed.{wellFormed}
 use Rattle.table.specs.declared.SatBox.{SatBox}
 use Rattle.table.specs.declared.Refusal.{Refusal}
@@ -21,8 +21,7 @@ use Rattle.table.specs.declared.Outcome.{Outcome}
 use Rattle.table.specs.declared.Outcome.the-variants.{Done, Refused}
 use Rattle.table.proofs.Rules.{formed}
 use Rattle.closings.specs.Does.{Does}
-use Rattle.closings.specs.Did.{bytesOf}
-use Rattle.closings.specs.Closing.{isExpired, swept, sweeping, atClock}
+use Rattle.closings.specs.Closing.{bytesOf, isExpired, swept, sweeping, atClock}
 use Rattle.closings.specs.DueAt.{closingDue, agedAt}
 use Rattle.closings.specs.declared.Due.{Due}
 use Rattle.satbox.specs.Calls.{_else_andThen_, ifDone, tickOutcome, ticked, tickedJournal, emptied, collectOutcome, collected, collectedInto}

@@ -5,8 +5,7 @@ use mathlib.Core.Bool.{true}
 use mathlib.Core.List.{List, _∷_}
 use Prim.Native.Nat.{ℕ}
 use native.Mathlib.Omega.{arith}
-use Rattle.stream.specs.Streams.{pastStream, isSound}
-use Rattle.stream.specs.Merging.{mergeOf}
+use Rattle.stream.specs.Streams.{pastStream, isSound, mergeOf}
 use Rattle.stream.specs.Arrays.{areFit}
 use Rattle.stream.specs.declared.Stream.{Stream}
 use Rattle.stream.specs.declared.Outcome.the-variants.{Merged}
@@ -21,8 +20,7 @@ use Rattle.table.specs.declared.Outcome.the-variants.{Done, Refused}
 use Rattle.table.proofs.Rules.{formed}
 use Rattle.table.proofs.Changes.{seats-fed, sound-at, rows-fed, by-id}
 use Rattle.table.proofs.Fresh.{fresh-formed}
-use Rattle.closings.specs.Did.{restreamed}
-use Rattle.closings.specs.Closing.{sweeping, atClock}
+use Rattle.closings.specs.Closing.{restreamed, sweeping, atClock}
 use Rattle.satbox.specs.Calls.{ifDone, ticked, tickOutcome, emptied, collected, collectOutcome}
 use Rattle.closings.proofs.Closings.{with-length}
 use Rattle.closings.proofs.Keeping.{Whole, swept-whole, clock-whole}

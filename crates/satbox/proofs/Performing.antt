@@ -11,16 +11,14 @@ use borrow.Author.Tests.{eq-eqb, ne-eqb, eqb-false, not-true, ltb-false}
 use Rattle.scan.proofs.Bools.{never, and-both, both, Case, case, is, isnt, Same, sames, same, other}
 use Rattle.writing.specs.Writing.{written}
 use Rattle.writing.proofs.Writes.{written-none}
-use Rattle.journal.specs.Records.{nextSequence}
-use Rattle.journal.specs.Bytes.{encoded}
+use Rattle.journal.specs.Records.{nextSequence, encoded}
 use Rattle.stream.specs.declared.Stream.{Stream}
 use Rattle.table.specs.Table.{streamOf}
 use Rattle.table.specs.declared.Session.{Session}
 use Rattle.table.specs.declared.SatBox.{SatBox}
 use Rattle.table.proofs.Ids.{with-none, with-at}
-use Rattle.closings.specs.Did.{restreamed, reseated, noting}
+use Rattle.closings.specs.Closing.{restreamed, reseated, noting, closing}
 use Rattle.closings.specs.Does.{Does}
-use Rattle.closings.specs.Closing.{closing}
 use Rattle.serving.specs.Serving.{withSession}
 use Rattle.satbox.specs.Branches.{settled, Settable}
 use Rattle.serving.specs.Turns.{performed, Performable, deniedAs}

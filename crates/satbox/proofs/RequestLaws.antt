@@ -28,22 +28,18 @@ use Rattle.stream.specs.declared.Outcome.{Outcome as Merge}
 use Rattle.stream.specs.declared.Outcome.the-variants.{Merged, Combination as Clash, TooMany}
 use Rattle.table.specs.declared.Outcome.{Outcome}
 use Rattle.table.specs.declared.Outcome.the-variants.{Done, Refused}
-use Rattle.steps.specs.Asked.{Asked, Lists, askedOf, listsOf}
-use Rattle.steps.specs.Cases.{isPassed}
-use Rattle.steps.specs.Sights.{sightOf}
-use Rattle.steps.specs.Steps.{isNamed, tableCase}
+use Rattle.steps.specs.Sights.{Asked, Lists, askedOf, listsOf, sightOf}
+use Rattle.steps.specs.Steps.{isPassed, isNamed, tableCase}
 use Rattle.steps.specs.Replies.{replyText}
 use Rattle.steps.specs.Handed.{replyTo}
 use Rattle.steps.specs.declared.cases.Case.the-variants.{Passed, Reading, Combination, TooManyPids, Full}
 use Rattle.steps.proofs.ReplyLaws.{Follows, follows-passed, follows-refused, isReading, unread-chain, table-unread, reply-told, Numbers, reply-fits}
 use Rattle.closings.specs.Does.{Does}
-use Rattle.closings.specs.Closing.{swept, sweeping, atClock}
+use Rattle.closings.specs.Closing.{swept, sweeping, atClock, bytesOf}
 use Rattle.serving.specs.Serving.{Serving, merging, merges, mergeCase, isOpening, canSeat, caseOf, denied, grant, served, clientOf, answered}
 use Rattle.serving.specs.Turns.{changeCase, performed, TurnIs}
-use Rattle.closings.specs.Did.{bytesOf}
-use Rattle.satbox.specs.Calls.{_else_andThen_, ifDone}
+use Rattle.satbox.specs.Calls.{_else_andThen_, ifDone, requestOutcome, requested, answerOf, replied, repliedInto, repliedJournal}
 use Rattle.satbox.specs.Branches.{Responds}
-use Rattle.satbox.specs.Requests.{requestOutcome, requested, answerOf, replied, repliedInto, repliedJournal}
 use Rattle.serving.specs.declared.opening.Client.{Client}
 use Rattle.serving.specs.declared.Turn.{Turn}
 use Rattle.satbox.specs.declared.Replied.{Replied}

@@ -9,11 +9,11 @@ use lib.ListN.{length, drop}
 use Rattle.reader.specs.declared.Request.{Request}
 use Rattle.table.specs.declared.SatBox.{SatBox}
 use Rattle.steps.specs.Handed.{Told}
-use Rattle.steps.specs.Cases.{isPassed}
+use Rattle.steps.specs.Steps.{isPassed}
 use Rattle.steps.specs.Replies.{replyText}
 use Rattle.steps.specs.declared.cases.Case.{Case}
 use Rattle.steps.specs.declared.cases.Case.the-variants.{Passed}
-use Rattle.closings.specs.Did.{Did, nothing, restreamed}
+use Rattle.closings.specs.Closing.{Did, nothing, restreamed}
 use Rattle.serving.specs.Serving.{answered}
 use Rattle.serving.specs.Turns.{deniedAs, seated, Seatable, TurnIs}
 use Rattle.serving.specs.declared.Turn.{Turn}

@@ -8,8 +8,8 @@ use native.Mathlib.Omega.{arith}
 use lib.Dec.{eqb, leb}
 use lib.ListN.{length, getD, drop}
 use borrow.Author.Tests.{eq-eqb, ne-eqb, eqb-true, leb-true}
-use Rattle.scan.specs.Classes.{isCapital}
-use Rattle.scan.specs.Compare.{alikeBy}
+use Rattle.scan.specs.Lists.{isCapital}
+use Rattle.scan.specs.Text.{alikeBy}
 use Rattle.scan.proofs.Bools.{never, and-both, by-cases}
 use Rattle.scan.proofs.Loops.{turn, end}
 

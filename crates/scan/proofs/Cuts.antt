@@ -11,7 +11,7 @@ use borrow.Author.Tests.{lt-ltb, ltb-true, ltb-false, le-leb, lt-leb, eq-eqb, eq
 use Rattle.scan.specs.Lists.{all, first, part}
 use Rattle.scan.specs.Found.{FirstFrom, cutFrom, joined}
 use Rattle.scan.proofs.Bools.{never}
-use Rattle.scan.specs.Cut.{is, push, cut}
+use Rattle.scan.specs.Text.{is, push, cut}
 
 -- the pieces after the separator at place k: none where the list ends there
 abbrev after : ℕ → ℕ → List ℕ → List (List ℕ)

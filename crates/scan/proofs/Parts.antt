@@ -7,12 +7,10 @@ use native.Mathlib.Nat.{suc-sub-suc, sub-zero, zero-sub}
 use native.Mathlib.Omega.{arith}
 use lib.ListN.{length, getD, take, drop, replicate, length-take, length-drop}
 use lib.Seq.{take-take, drop-drop, take-nil, take-all, take-suc, getD-drop}
-use Rattle.scan.specs.Lists.{part, all}
+use Rattle.scan.specs.Lists.{part, all, isName, areNameBytes}
 use Rattle.scan.specs.Found.{Holds, FirstOf}
-use Rattle.scan.specs.Trim.{isEmpty}
+use Rattle.scan.specs.Text.{isEmpty, is, before}
 use lib.Dec.{ltb}
-use Rattle.scan.specs.Classes.{isName, areNameBytes}
-use Rattle.scan.specs.Cut.{is, before}
 
 module _ {A : Type 0} where
   drop-take : (i n : ℕ) (l : List A) → drop i (take n l) ≡ take (n - i) (drop i l)

@@ -5,9 +5,7 @@ use mathlib.Core.List.{List, [], _∷_, map}
 use Prim.Native.Nat.{ℕ, suc}
 use lib.ListN.{length}
 use Rattle.scan.specs.Lists.{first}
-use Rattle.scan.specs.Compare.{seen, areAlike}
-use Rattle.scan.specs.Cut.{cut}
-use Rattle.scan.specs.Words.{placeAmong}
+use Rattle.scan.specs.Text.{seen, areAlike, cut, placeAmong}
 use Rattle.scan.specs.Found.{isWord}
 use Rattle.scan.specs.declared.Case.{Case}
 use Rattle.scan.proofs.Loops.{first-same}

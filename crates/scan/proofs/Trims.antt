@@ -9,7 +9,7 @@ use lib.ListN.{length, getD, drop}
 use borrow.Author.Tests.{ne-eqb}
 use Rattle.scan.specs.Lists.{part}
 use Rattle.scan.specs.Found.{FirstOf, Trimmed, leading}
-use Rattle.scan.specs.Trim.{isEmpty, trimEnd, trim}
+use Rattle.scan.specs.Text.{isEmpty, trimEnd, trim}
 use Rattle.scan.specs.declared.Span.{Span}
 use Rattle.scan.proofs.Parts.{part-more, part-rest, part-empty, holds-length}
 

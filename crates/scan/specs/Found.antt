@@ -4,16 +4,13 @@ use mathlib.Core.Bool.{Bool, cond, not}
 use mathlib.Core.Path.{_≡_}
 use mathlib.Core.List.{List, [], _∷_, _++_}
 use lib.ListN.{length, drop}
-use Rattle.scan.specs.Lists.{first, part}
+use Rattle.scan.specs.Lists.{first, part, isDigit, isCapital, isName, isText}
 use Rattle.scan.specs.declared.Span.{Span}
-use Rattle.scan.specs.Trim.{trim}
-use Rattle.scan.specs.Compare.{areAlike}
+use Rattle.scan.specs.Text.{trim, areAlike, cut}
 use Rattle.scan.specs.declared.Case.{Case}
 use lib.Dec.{leb, eqb}
-use Rattle.scan.specs.Cut.{cut}
 use Rattle.scan.specs.declared.Class.{Class}
 use Rattle.scan.specs.declared.Class.the-variants.{Is, Not, Digit, Name, Text, NotText}
-use Rattle.scan.specs.Classes.{isDigit, isCapital, isName, isText}
 
 module _ {A : Type 0} (p : A → Bool) where
   -- r is the place of the first element that passes

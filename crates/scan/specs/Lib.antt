@@ -1,8 +1,3 @@
 pub mod Text
 pub mod Lists
-pub mod Classes
-pub mod Compare
-pub mod Trim
-pub mod Cut
-pub mod Words
 pub mod Found

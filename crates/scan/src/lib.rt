@@ -2,10 +2,9 @@
 // answer for all bytes and all places. A call looks at a byte at most twice, and copies none.
 ghost use mathlib.Core.Path.{_≡_};
 ghost use lib.Dec.{eqb};
-ghost use Rattle.scan.specs.Lists.{all};
+ghost use Rattle.scan.specs.Lists.{all, isDigit, isCapital, isName, isText};
 ghost use Rattle.scan.specs.Found.{FirstOf, FirstFrom, Trimmed, inClass};
-ghost use Rattle.scan.specs.Classes.{isDigit, isCapital, isName, isText};
-ghost use Rattle.scan.specs.Compare.{seen, areAlike};
+ghost use Rattle.scan.specs.Text.{seen, areAlike};
 
 // A class of bytes, handed to a scan.
 pub enum Class {

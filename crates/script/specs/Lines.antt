@@ -5,7 +5,7 @@ use mathlib.Core.List.{List, [], _∷_, _++_}
 use lib.Dec.{eqb}
 use lib.ListN.{take, drop, replicate}
 use Rattle.scan.specs.Lists.{first}
-use Rattle.scan.specs.Cut.{is}
+use Rattle.scan.specs.Text.{is}
 
 -- up to the first LF; all of it where there is none
 abbrev pub firstLine : List ℕ → List ℕ

@@ -2,7 +2,7 @@
 // for all bytes and all places, and looks at each byte at most once, `place_among` once for each word that is as long.
 ghost use mathlib.Core.Path.{_≡_};
 ghost use Rattle.writing.specs.Wrote.{Wrote};
-ghost use Rattle.scan.specs.Words.{placeAmong};
+ghost use Rattle.scan.specs.Text.{placeAmong};
 ghost use Rattle.script.specs.Lines.{lineAt, standsFor, unfolded};
 use scan::Case;
 use scan::Class;

@@ -1,36 +1,68 @@
--- Document 01: steps 16 to 18, what a request does where nothing refuses it, and all eighteen steps in a row. Assumes nothing.
-use Prim.Native.Nat.{ℕ}
+-- Document 01: what an opening takes, steps 16 to 18, what a request does where nothing refuses it, and all eighteen steps in a row. Assumes nothing.
+use Prim.Native.Nat.{ℕ, _+_, _*_}
+use mathlib.Core.Bool.{Bool, not, _&&_, cond, _||_}
+use lib.Dec.{leb, ltb, eqb}
+use lib.ListN.{length, getD, set}
+use Rattle.scan.specs.Lists.{isBetween, _gives_or_}
+use Rattle.journal.specs.Records.{recordSize}
+use Rattle.stream.specs.declared.Stream.{Stream}
+use Rattle.table.specs.Table.{openCount, streamOf, isLive, noSession, owns, boxWith, sessionWith}
+use Rattle.finding.specs.Finding.{lowestPlace, lowestId, isHeld, drawn, lowestFrontend}
+use Rattle.table.specs.declared.Session.{Session}
+use Rattle.table.specs.declared.SatBox.{SatBox}
+use Rattle.closings.specs.Closing.{Did, when, restreamed, noting, nothing, closing}
+use Rattle.serving.specs.declared.opening.Client.{Client}
 use mathlib.Core.List.{List}
-use mathlib.Core.Bool.{Bool, not, cond, _&&_, _||_}
-use lib.Dec.{eqb}
-use lib.ListN.{getD, set}
 use Rattle.refusals.specs.Refusals as reading
 use Rattle.aim.specs.Aim.{methodNumber}
 use Rattle.aim.specs.declared.Method.{Method}
 use Rattle.aim.specs.declared.Method.the-variants.{Options, Setup, Play, Teardown, Other}
 use Rattle.reader.specs.Request.{requestRefusal}
-use Rattle.stream.specs.Streams.{blank}
-use Rattle.stream.specs.Merging.{mergeOf}
-use Rattle.stream.specs.declared.Stream.{Stream}
+use Rattle.stream.specs.Streams.{blank, mergeOf}
 use Rattle.stream.specs.declared.Change.{Change}
 use Rattle.stream.specs.declared.Outcome.{Outcome}
 use Rattle.stream.specs.declared.Outcome.the-variants.{Merged, Combination as Clash, TooMany}
-use Rattle.table.specs.Table.{noSession, streamOf, owns, boxWith, sessionWith}
-use Rattle.finding.specs.Finding.{lowestFrontend, lowestId}
-use Rattle.table.specs.declared.Session.{Session}
-use Rattle.table.specs.declared.SatBox.{SatBox}
-use Rattle.steps.specs.Asked.{Asked, Lists, askedOf, listsOf}
-use Rattle.steps.specs.Sights.{portOf, sightOf}
-use Rattle.steps.specs.Cases.{isPassed}
-use Rattle.steps.specs.Steps.{isSetup, isNamed, tableCase}
+use Rattle.steps.specs.Sights.{Asked, Lists, askedOf, listsOf, portOf, sightOf}
+use Rattle.steps.specs.Steps.{isPassed, isSetup, isNamed, tableCase}
 use Rattle.steps.specs.declared.Sight.{Sight}
 use Rattle.steps.specs.declared.cases.Case.{Case}
 use Rattle.steps.specs.declared.cases.Case.the-variants.{Passed, Combination, TooManyPids, Full, Reading}
-use Rattle.closings.specs.Did.{Did, nothing, when, restreamed}
-use Rattle.closings.specs.Closing.{closing}
-use Rattle.serving.specs.Opening.{guest, canJoin, joining, canOpen, opening}
-use Rattle.serving.specs.declared.opening.Client.{Client}
-use Rattle.scan.specs.Lists.{_gives_or_}
+
+-- not "no free session place"
+abbrev pub hasPlace : SatBox → Bool
+hasPlace t = ltb (lowestPlace (t .sessions)) (length (t .sessions))
+
+-- not "bytes held + 16 × open + 32 > C"
+abbrev pub hasRoom : SatBox → Bool
+hasRoom t = leb (t .held + recordSize * openCount t + 2 * recordSize) (t .settings .size)
+
+-- not "a new stream whose fe is held, or with no fe and no frontend free": with none free the lowest is past the last
+abbrev pub hasFrontend : ℕ → SatBox → Bool
+hasFrontend f t = isBetween 1 (t .settings .frontends) f && not (isHeld f (t .streams))
+
+-- "Its session number is the first non-zero number not open, counting up from the draw"; "A session keeps the client's address from its
+-- opening"; an opening sets "the last time to the clock"
+abbrev pub guest : ℕ → ℕ → Client → SatBox → Session
+guest owner id c t =
+    record { number = drawn (t .sessions) (c .draw); address = c .address; last = t .clock; port = c .port; stream = id; owner = owner; playing = 0 }
+
+-- "An opening takes the lowest free place."
+unfoldable pub seatingAs : ℕ → Session → SatBox → Did
+seatingAs kind s t = noting kind 0 s (lowestPlace (t .sessions)) s t
+
+-- "SETUP on a live stream without Session joins it, never owning it": kind 2
+abbrev pub canJoin : ℕ → SatBox → Bool
+canJoin id t = hasPlace t && (isLive (streamOf t id) && hasRoom t)
+
+unfoldable pub joining : ℕ → Client → SatBox → Did
+joining id client t = when (canJoin id t) (seatingAs 2 (guest 0 id client t) t) t
+
+-- "A new stream takes the lowest free ID": kind 1
+abbrev pub canOpen : ℕ → SatBox → Bool
+canOpen f t = hasPlace t && (hasFrontend f t && hasRoom t)
+
+unfoldable pub opening : Stream → Client → SatBox → Did
+opening m client t = when (canOpen (m .frontend) t) (seatingAs 1 (guest 1 (lowestId (t .streams)) client t) (restreamed (lowestId (t .streams)) m t)) t
 
 -- a new stream takes fe "and, without fe, the lowest free frontend"
 abbrev pub feedOf : SatBox → ℕ → ℕ

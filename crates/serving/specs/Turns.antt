@@ -13,7 +13,7 @@ use Rattle.aim.specs.declared.Method.the-variants.{Options, Setup, Play, Teardo
 use Rattle.refusals.specs.declared.Refusal.{Refusal}
 use Rattle.reader.specs.Heads.{RequestIs}
 use Rattle.reader.specs.declared.Request.{Request}
-use Rattle.journal.specs.Bytes.{recordSize}
+use Rattle.journal.specs.Records.{recordSize}
 use Rattle.stream.specs.Streams.{noStream, blank}
 use Rattle.stream.specs.declared.Stream.{Stream}
 use Rattle.stream.specs.declared.Change.{Change}
@@ -25,22 +25,18 @@ use Rattle.finding.specs.Finding.{lowestPlace, lowestId}
 use Rattle.table.specs.declared.SatBox.{SatBox}
 use Rattle.table.specs.declared.Session.{Session}
 use Rattle.steps.specs.Handed.{askedBy, Told}
-use Rattle.steps.specs.Cases.{isPassed}
-use Rattle.steps.specs.Sights.{sightOf}
-use Rattle.steps.specs.Steps.{isNamed, tableCase}
+use Rattle.steps.specs.Steps.{isPassed, isNamed, tableCase}
+use Rattle.steps.specs.Sights.{sightOf, Asked, Lists}
 use Rattle.steps.specs.declared.Sight.{Sight}
 use Rattle.steps.specs.declared.cases.Case.{Case}
 use Rattle.steps.specs.declared.cases.Case.the-variants.{Passed, Combination, TooManyPids, Full, Reading}
-use Rattle.closings.specs.Did.{Did, nothing, restreamed, noting}
+use Rattle.closings.specs.Closing.{Did, nothing, restreamed, noting, closing}
 use Rattle.closings.specs.Does.{Closable}
-use Rattle.closings.specs.Closing.{closing}
-use Rattle.serving.specs.Opening.{hasPlace, hasRoom, guest, canOpen}
-use Rattle.serving.specs.Serving.{Serving, feedOf, merging, merges, mergeCase, isOpening, canSeat, withSession, refreshed, seatAfter}
+use Rattle.serving.specs.Serving.{hasPlace, hasRoom, guest, canOpen, Serving, feedOf, merging, merges, mergeCase, isOpening, canSeat, withSession, refreshed, seatAfter}
 use Rattle.serving.specs.declared.opening.Client.{Client}
 use Rattle.serving.specs.declared.opening.Offer.{Offer}
 use Rattle.serving.specs.declared.Turn.{Turn}
 use Rattle.scan.specs.Lists.{_gives_or_}
-use Rattle.steps.specs.Asked.{Asked, Lists}
 
 -- steps 16 to 18 alone
 abbrev pub changeCase : SatBox → Asked → Lists → Case

@@ -39,8 +39,7 @@ use Rattle.answer.specs.declared.Answer.{Answer}
 use Rattle.answer.specs.declared.Kind.the-variants as kind
 use Rattle.answer.proofs.Fits.{Is-small, answer-fits}
 use Rattle.steps.proofs.Telling.{asked-short, head-short}
-use Rattle.steps.specs.Cases.{ruleOf, isPassed}
-use Rattle.steps.specs.Steps.{tableCase}
+use Rattle.steps.specs.Steps.{ruleOf, isPassed, tableCase}
 use Rattle.steps.specs.Tests.{lacksSession, namesDead, isOutOfState, isAnothers, lacksPort}
 use Rattle.steps.specs.Replies.{grantedLines, replyText}
 use Rattle.steps.specs.Handed.{grantedKind, kindOf, replyTo}

@@ -33,7 +33,7 @@ use Rattle.reader.specs.declared.fields.Transport.{Transport}
 use Rattle.reader.specs.declared.fields.Transport.the-variants.{Other, Port}
 use Rattle.reader.specs.Request.{uriOf, headRefusal, requestRefusal}
 use Rattle.reader.specs.declared.Request.{Request}
-use Rattle.steps.specs.Asked.{codesIn, askedOf, listsOf}
+use Rattle.steps.specs.Sights.{codesIn, askedOf, listsOf}
 use Rattle.steps.specs.Handed.{askedBy, listsBy, Told}
 use Rattle.refusals.specs.Refusals.{readingRule}
 

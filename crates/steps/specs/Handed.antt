@@ -18,10 +18,9 @@ use Rattle.table.specs.declared.Session.{Session}
 use Rattle.answer.specs.declared.Kind.{Kind}
 use Rattle.answer.specs.declared.Kind.the-variants as kind
 use Rattle.answer.specs.declared.Answer.{Answer}
-use Rattle.steps.specs.Asked.{Asked, Lists}
-use Rattle.steps.specs.Sights.{isAbsent, portOf}
+use Rattle.steps.specs.Sights.{Asked, Lists, isAbsent, portOf}
 use Rattle.steps.specs.declared.Sight.{Sight}
-use Rattle.steps.specs.Cases.{ruleOf, isPassed}
+use Rattle.steps.specs.Steps.{ruleOf, isPassed}
 use Rattle.steps.specs.declared.cases.Case.{Case}
 use Rattle.steps.specs.declared.cases.Case.the-variants.{Passed, Reading, NoSession, NotLive, State, NotOwner, Transport, Combination, TooManyPids, Full}
 use Rattle.refusals.specs.Refusals.{readingRule}

@@ -1,7 +1,5 @@
-pub mod Cases
-pub mod Asked
-pub mod Sights
 pub mod Steps
+pub mod Sights
 pub mod Replies
 pub mod Handed
 pub mod Tests

@@ -13,7 +13,7 @@ use Rattle.aim.specs.declared.Method.the-variants.{Options, Setup, Play, Teardo
 use Rattle.reader.specs.Request.{methodOf, uriOf, cseqOf}
 use Rattle.table.specs.declared.Session.{Session}
 use Rattle.answer.specs.Lines.{line, sessionLine, publicLine, transportLine, refusedLines, answerLines}
-use Rattle.steps.specs.Cases.{ruleOf, isPassed}
+use Rattle.steps.specs.Steps.{ruleOf, isPassed}
 use Rattle.steps.specs.declared.cases.Case.{Case}
 use lib.ListN.{getD}
 

@@ -1,14 +1,30 @@
--- Document 01, "The answer, first that applies", steps 11 to 15, in its order. Assumes nothing.
+-- The refusals of steps 1 to 18, each with its step and its status, 0 and 200 where nothing refuses; and steps 11 to 15, in order. Assumes nothing.
 use Prim.Native.Nat.{ℕ}
-use mathlib.Core.Bool.{Bool, true, false, not, _&&_, _||_}
 use lib.Dec.{eqb, ltb}
+use mathlib.Core.Bool.{Bool, true, false, not, _&&_, _||_}
+use Rattle.steps.specs.declared.cases.Case.{Case}
+use Rattle.steps.specs.declared.cases.Case.the-variants.{Passed, Reading, NoSession, NotLive, State, NotOwner, Transport, Combination, TooManyPids, Full}
+use Rattle.refusals.specs.Refusals.{readingRule}
 use Rattle.aim.specs.Aim.{methodNumber}
 use Rattle.aim.specs.declared.Method.{Method}
 use Rattle.table.specs.Table.{owns}
-use Rattle.steps.specs.declared.cases.Case.{Case}
-use Rattle.steps.specs.declared.cases.Case.the-variants.{Passed, NoSession, NotLive, State, NotOwner, Transport}
 use Rattle.steps.specs.declared.Sight.{Sight}
 use Rattle.scan.specs.Lists.{_gives_or_}
+
+abbrev pub ruleOf : Case → ℕ × ℕ
+ruleOf Passed = (0, 200)
+ruleOf (Reading refusal) = readingRule refusal
+ruleOf NoSession = (11, 454)
+ruleOf NotLive = (12, 404)
+ruleOf State = (13, 455)
+ruleOf NotOwner = (14, 403)
+ruleOf Transport = (15, 461)
+ruleOf Combination = (16, 403)
+ruleOf TooManyPids = (17, 503)
+ruleOf Full = (18, 503)
+
+abbrev pub isPassed : Case → Bool
+isPassed c = eqb (ruleOf c .0) 0
 
 abbrev pub isSetup : Method → Bool
 isSetup m = eqb (methodNumber m) 1

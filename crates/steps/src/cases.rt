@@ -1,6 +1,6 @@
 // Why a request is refused, over all of document 01's steps: each case with its step and its status.
 ghost use mathlib.Core.Path.{_≡_};
-ghost use Rattle.steps.specs.Cases.{ruleOf, isPassed};
+ghost use Rattle.steps.specs.Steps.{ruleOf, isPassed};
 use refusals::Refusal;
 
 pub enum Case {

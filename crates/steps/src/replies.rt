@@ -1,7 +1,7 @@
 // What a request is answered with: by the case, and on 200 by the method and the session.
 ghost use mathlib.Core.Path.{_≡_};
 ghost use mathlib.Core.Bool.{cond};
-ghost use Rattle.steps.specs.Cases.{isPassed};
+ghost use Rattle.steps.specs.Steps.{isPassed};
 ghost use Rattle.steps.specs.Handed.{refusedKind, grantedKind, kindOf, replyTo};
 use crate::cases;
 use crate::cases::Case;

@@ -8,11 +8,8 @@ use native.Mathlib.Omega.{arith}
 use lib.Dec.{eqb, ltb}
 use lib.ListN.{length, getD, drop, take}
 use borrow.Author.Tests.{le-leb, ltb-true, eqb-true, eq-eqb}
-use Rattle.scan.specs.Text.{text, _&_}
-use Rattle.scan.specs.Classes.{isBetween}
-use Rattle.scan.specs.Lists.{all}
-use Rattle.scan.specs.Cut.{cut, before, after}
-use Rattle.scan.specs.Words.{placeAmong}
+use Rattle.scan.specs.Text.{text, _&_, cut, before, after, placeAmong}
+use Rattle.scan.specs.Lists.{isBetween, all}
 use Rattle.scan.specs.declared.Case.the-variants.{Counts}
 use Rattle.scan.proofs.Bools.{never, and-both, by-test, both, or-right}
 use Rattle.digits.specs.declared.Read.the-variants.{Value, Nothing}

@@ -9,15 +9,14 @@ use lib.ListN.{length, getD, take, replicate, length-append, length-replicate}
 use lib.Seq.{length-take-le}
 use borrow.Author.Tests.{le-leb, leb-true, eqb-true, eqb-false, le-ltb, ltb-false, not-true, not-false}
 use Rattle.scan.specs.Lists.{all}
-use Rattle.scan.specs.Cut.{cut}
+use Rattle.scan.specs.Text.{cut}
 use Rattle.scan.proofs.Bools.{never, and-both, by-test, both}
 use Rattle.digits.specs.declared.Read.{Read}
 use Rattle.digits.specs.declared.Read.the-variants.{Value, Nothing}
 use Rattle.stream.specs.Values.{goTogether, merged}
 use Rattle.stream.specs.Pids.{added, removed, withNumber, numbersIn, obeyed, Choice, replaced, edited, chosen, choiceOf, isPadded, isChoice}
 use Rattle.stream.specs.Arrays.{readPid, areTooMany, laidOut, areFit, isLow, rises, numbersRead, addedAll}
-use Rattle.stream.specs.Streams.{isSound}
-use Rattle.stream.specs.Merging.{changed, mergeOf}
+use Rattle.stream.specs.Streams.{isSound, changed, mergeOf}
 use Rattle.stream.specs.declared.Values.{Values}
 use Rattle.stream.specs.declared.Stream.{Stream}
 use Rattle.stream.specs.declared.Change.{Change}

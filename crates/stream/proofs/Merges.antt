@@ -13,7 +13,7 @@ use Rattle.scan.proofs.Bools.{by-test, by-cases}
 use Rattle.stream.specs.Values.{merged, goTogether}
 use Rattle.stream.specs.Pids.{added, removed, numbersIn, obeyed, Choice, replaced, edited, chosen, choiceOf}
 use Rattle.stream.specs.Arrays.{withText, laidOut, addedAll, Chosen, Front, Held}
-use Rattle.stream.specs.Merging.{changed, mergeOf}
+use Rattle.stream.specs.Streams.{changed, mergeOf}
 use Rattle.stream.specs.declared.Values.{Values}
 use Rattle.stream.specs.declared.Stream.{Stream}
 use Rattle.stream.specs.declared.pids.Pids.{Pids}

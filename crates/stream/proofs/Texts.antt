@@ -10,7 +10,7 @@ use lib.ListN.{length, take}
 use borrow.Author.Tests.{eq-eqb, ne-eqb}
 use Rattle.scan.specs.Lists.{part}
 use Rattle.scan.specs.Found.{FirstFrom, cutFrom}
-use Rattle.scan.specs.Cut.{is}
+use Rattle.scan.specs.Text.{is}
 use Rattle.scan.proofs.Cuts.{cut-start, cut-turn, cut-end}
 use Rattle.digits.specs.declared.Read.{Read}
 use Rattle.digits.specs.declared.Read.the-variants.{Value, Nothing}

@@ -6,8 +6,7 @@ use mathlib.Core.Bool.{Bool, true, false, cond, _&&_, _||_}
 use mathlib.Core.List.{List, [], _∷_, _++_, foldr}
 use lib.Dec.{eqb, leb, ltb}
 use lib.ListN.{length, take, drop, getD, replicate}
-use Rattle.scan.specs.Classes.{isBetween}
-use Rattle.scan.specs.Lists.{all}
+use Rattle.scan.specs.Lists.{isBetween, all}
 use Rattle.digits.specs.Reading.{readNumber}
 use Rattle.digits.specs.declared.Read.{Read}
 use Rattle.digits.specs.declared.Read.the-variants.{Value, Nothing}

@@ -2,5 +2,4 @@ pub mod Values
 pub mod Pids
 pub mod Arrays
 pub mod Streams
-pub mod Merging
 pub mod Samples

@@ -5,7 +5,7 @@ use mathlib.Core.List.{List, [], _∷_, foldr, foldl}
 use lib.Dec.{eqb, leb, ltb}
 use lib.ListN.{getD, take}
 use Rattle.scan.specs.Lists.{all}
-use Rattle.scan.specs.Cut.{cut}
+use Rattle.scan.specs.Text.{cut}
 use Rattle.digits.specs.Reading.{readNumber}
 use Rattle.digits.specs.declared.Read.{Read}
 use Rattle.digits.specs.declared.Read.the-variants.{Value, Nothing}

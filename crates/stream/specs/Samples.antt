@@ -9,8 +9,7 @@ use Rattle.scan.specs.Text.{text}
 use Rattle.digits.specs.Reading.{readNumber}
 use Rattle.stream.specs.Values.{areNone, areInRange, goTogether, merged, areComplete}
 use Rattle.stream.specs.Pids.{numbersIn, replaced, chosen, isChoice}
-use Rattle.stream.specs.Streams.{noStream, blank, areZero, isSound}
-use Rattle.stream.specs.Merging.{changed, mergeOf}
+use Rattle.stream.specs.Streams.{noStream, blank, areZero, isSound, changed, mergeOf}
 use Rattle.stream.specs.declared.Stream.{Stream}
 use Rattle.stream.specs.declared.Change.{Change}
 use Rattle.stream.specs.declared.Outcome.the-variants.{Merged, Combination, TooMany}

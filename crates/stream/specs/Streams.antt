@@ -1,14 +1,16 @@
--- One stream's place: empty, newly opened, and as a table may hold it. Assumes nothing.
-use Prim.Native.Nat.{ℕ}
-use mathlib.Core.Bool.{Bool, cond, _&&_}
-use mathlib.Core.List.{[]}
-use lib.Dec.{eqb}
-use lib.ListN.{replicate}
-use Rattle.scan.specs.Classes.{isBetween}
-use Rattle.scan.specs.Lists.{all}
-use Rattle.stream.specs.Values.{onlySrc, isZero, areNone, areInRange, goTogether}
-use Rattle.stream.specs.Pids.{isChoice}
+-- One stream's place: empty, newly opened, as a table may hold it; and what a query makes of it. Assumes nothing.
+use Prim.Native.Nat.{ℕ, _-_}
+use mathlib.Core.Bool.{Bool, cond, _&&_, not}
+use mathlib.Core.List.{[], List, _++_}
+use lib.Dec.{eqb, ltb}
+use lib.ListN.{replicate, length}
+use Rattle.scan.specs.Lists.{isBetween, all}
+use Rattle.stream.specs.Values.{onlySrc, isZero, areNone, areInRange, goTogether, merged}
+use Rattle.stream.specs.Pids.{isChoice, Choice, chosen}
 use Rattle.stream.specs.declared.Stream.{Stream}
+use Rattle.stream.specs.declared.Values.{Values}
+use Rattle.stream.specs.declared.Change.{Change}
+use Rattle.stream.specs.declared.Outcome.the-variants.{Merged, Combination, TooMany}
 
 -- a place where no stream is: "unused places all zeros"
 abbrev pub noStream : Stream
@@ -32,3 +34,14 @@ unfoldable pub isSound : ℕ → Stream → Bool
 isSound frontends m =
     cond (eqb (m .frontend) 0) (areZero m)
     (isBetween 1 frontends (m .frontend) && (areInRange (m .values) && (goTogether (m .values) && isChoice m)))
+
+-- a stream with other values and PIDs, and zeros after these; "fe: the frontend held"
+unfoldable pub changed : Stream → Values → Choice → Stream
+changed m v c = record { pids = c .list ++ replicate (32 - length (c .list)) 0; values = v; count = length (c .list); frontend = m .frontend; all = cond (c .all) 1 0 }
+
+-- "Combination rule broken", then "More than 32 PIDs after merging"; in both the stream stays as it is
+unfoldable pub mergeOf : Stream → List ℕ → List ℕ → List ℕ → List ℕ → Change
+mergeOf m codes pids delpids addpids =
+    cond (not (goTogether (merged (m .values) codes))) (record { stream = m; outcome = Combination })
+    (cond (ltb 32 (length (chosen m codes pids delpids addpids .list))) (record { stream = m; outcome = TooMany })
+    (record { stream = changed m (merged (m .values) codes) (chosen m codes pids delpids addpids); outcome = Merged }))

@@ -4,8 +4,7 @@ use mathlib.Core.Bool.{Bool, not, cond, _&&_, _||_}
 use mathlib.Core.List.{List, [], _∷_}
 use lib.Dec.{eqb, leb}
 use lib.ListN.{getD}
-use Rattle.scan.specs.Classes.{isBetween}
-use Rattle.scan.specs.Lists.{all}
+use Rattle.scan.specs.Lists.{isBetween, all}
 use Rattle.stream.specs.declared.Values.{Values}
 
 -- all are missing but src; and with a src of 0 that too, where no stream is

@@ -4,8 +4,7 @@ mod pids;
 
 pub use attributes::are_complete;
 ghost use mathlib.Core.Path.{_≡_};
-ghost use Rattle.stream.specs.Streams.{blank, isSound};
-ghost use Rattle.stream.specs.Merging.{mergeOf};
+ghost use Rattle.stream.specs.Streams.{blank, isSound, mergeOf};
 use attributes::are_in_range;
 use attributes::are_none;
 use attributes::go_together;

@@ -8,14 +8,13 @@ use lib.Dec.{eqb, leb}
 use lib.ListN.{length, getD, set}
 use lib.Seq.{getD-set-other, getD-set-same}
 use borrow.Author.Tests.{ne-eqb, eq-eqb, eqb-true, eqb-false, not-true, leb-true, le-leb}
-use Rattle.scan.specs.Classes.{isBetween}
+use Rattle.scan.specs.Lists.{isBetween}
 use Rattle.scan.proofs.Bools.{never, and-both, Case, is, isnt, case, Same, same, other, sames, both}
 use Rattle.stream.specs.Streams.{noStream, pastStream, isSound}
 use Rattle.stream.specs.declared.Stream.{Stream}
 use Rattle.stream.proofs.Soundness.{none-sound}
-use Rattle.table.specs.Counts.{count}
+use Rattle.table.specs.Table.{count, noSession, hasNumber, isFree, isOpen, withStream, isOn, owns}
 use Rattle.table.proofs.Counts.{bit, bit-no, bit-yes, count-le, count-set, count-zero-at, count-set-le, count-set-same, cleared, count-cleared-le, count-cleared-same, count-cleared-none, all-cleared, once-set, getD-set-all, getD-set-alike, getD-set-here}
-use Rattle.table.specs.Table.{noSession, hasNumber, isFree, isOpen, withStream, isOn, owns}
 use Rattle.table.proofs.Ids.{streamIn}
 use Rattle.table.specs.Formed.{isSeated, isBlank}
 use Rattle.table.proofs.Rules.{isProper, fed, Seats, Rows, AreProper, past-sound}

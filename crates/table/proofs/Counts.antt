@@ -10,7 +10,7 @@ use lib.ListN.{length, getD, set}
 use borrow.Author.Tests.{eqb-true, eqb-false, eq-eqb, ne-eqb, not-true}
 use Rattle.scan.specs.Lists.{all, first}
 use Rattle.scan.proofs.Bools.{never, and-both, Case, is, isnt, case, Same, same, other, sames, both, or-second, or-neither, cond-keeps}
-use Rattle.table.specs.Counts.{count, any, isAmong, areDistinct}
+use Rattle.table.specs.Table.{count, any, isAmong, areDistinct}
 
 -- 1 for true
 abbrev pub bit : Bool → ℕ

@@ -12,7 +12,7 @@ use borrow.Author.Tests.{eq-eqb, ne-eqb}
 use Rattle.scan.specs.Lists.{part}
 use Rattle.scan.proofs.Loops.{turn, end}
 use Rattle.scan.proofs.Parts.{part-rest}
-use Rattle.table.specs.Counts.{any, isAmong, areDistinct}
+use Rattle.table.specs.Table.{any, isAmong, areDistinct}
 
 -- what f says of each element before place i stands in a, and the rest of it is as it was
 module _ {A : Type 0} (f : A → ℕ) where

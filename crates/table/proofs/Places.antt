@@ -8,7 +8,7 @@ use lib.ListN.{length, getD, drop, length-map}
 use borrow.Author.Needs.{needs}
 use borrow.Author.Tests.{not-true, not-false}
 use Rattle.scan.proofs.Loops.{turn, end}
-use Rattle.table.specs.Counts.{count}
+use Rattle.table.specs.Table.{count}
 use Rattle.table.proofs.Counts.{bit}
 
 -- the length of an array of structs, as `good` has it

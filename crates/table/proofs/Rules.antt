@@ -13,8 +13,7 @@ use Rattle.scan.proofs.Bools.{never, and-both, Case, is, isnt, case, both, or-s
 use Rattle.stream.specs.Values.{areNone}
 use Rattle.stream.specs.Streams.{pastStream, isSound, areZero}
 use Rattle.stream.specs.declared.Stream.{Stream}
-use Rattle.table.specs.Counts.{count, areDistinct}
-use Rattle.table.specs.Table.{noSession, hasNumber, isFree, openCount, streamOf, isDead, isLive, isOn, owns}
+use Rattle.table.specs.Table.{count, areDistinct, noSession, hasNumber, isFree, openCount, streamOf, isDead, isLive, isOn, owns}
 use Rattle.table.specs.Formed.{areSizes, areOwned, isSeated, isBlank, wellFormed}
 use Rattle.table.specs.declared.Session.{Session}
 use Rattle.table.specs.declared.SatBox.{SatBox}

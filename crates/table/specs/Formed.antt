@@ -3,13 +3,11 @@ use Prim.Native.Nat.{ℕ, suc, _+_, _*_, _%_}
 use mathlib.Core.Bool.{Bool, true, cond, _&&_, _||_}
 use mathlib.Core.List.{List, [], _∷_, map}
 use lib.Dec.{eqb, leb}
-use Rattle.scan.specs.Classes.{isBetween}
-use Rattle.scan.specs.Lists.{all}
-use Rattle.journal.specs.Bytes.{recordSize}
+use Rattle.scan.specs.Lists.{isBetween, all}
+use Rattle.journal.specs.Records.{recordSize}
 use Rattle.stream.specs.Streams.{isSound}
 use Rattle.stream.specs.declared.Stream.{Stream}
-use Rattle.table.specs.Counts.{count, areDistinct}
-use Rattle.table.specs.Table.{isFree, openCount, streamOf, isDead, isLive, owns}
+use Rattle.table.specs.Table.{count, areDistinct, isFree, openCount, streamOf, isDead, isLive, owns}
 use Rattle.table.specs.declared.Session.{Session}
 use Rattle.table.specs.declared.Settings.{Settings}
 use Rattle.table.specs.declared.SatBox.{SatBox}

@@ -1,4 +1,3 @@
-pub mod Counts
 pub mod Table
 pub mod Formed
 pub mod Made

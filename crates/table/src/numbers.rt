@@ -1,6 +1,6 @@
 // Numbers in a row, and what is looked up among them.
 ghost use mathlib.Core.Path.{_≡_};
-ghost use Rattle.table.specs.Counts.{isAmong, areDistinct};
+ghost use Rattle.table.specs.Table.{isAmong, areDistinct};
 
 // Whether a number is one of some. All are looked at, so that the compiler may compare many at once.
 pub fn is_among(ns: &[u32], n: u32) -> bool

@@ -9,8 +9,7 @@ use lib.ListN.{length, getD, drop}
 use borrow.Author.Tests.{eqb-true, eqb-false, ne-eqb}
 use Rattle.scan.specs.Lists.{all, first, part}
 use Rattle.scan.specs.Found.{FirstFrom, cutFrom}
-use Rattle.scan.specs.Cut.{is, cut}
-use Rattle.scan.specs.Trim.{isEmpty}
+use Rattle.scan.specs.Text.{is, cut, isEmpty}
 use Rattle.scan.proofs.Bools.{never}
 use Rattle.scan.proofs.Parts.{part-empty, some-part}
 use Rattle.scan.proofs.Cuts.{cut-start, cut-turn, cut-end}

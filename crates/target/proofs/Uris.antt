@@ -9,12 +9,9 @@ use native.Mathlib.Omega.{arith}
 use lib.Dec.{ltb}
 use lib.ListN.{length, drop}
 use borrow.Author.Tests.{not-true, not-false, lt-ltb, le-ltb, ltb-true}
-use Rattle.scan.specs.Text.{text}
-use Rattle.scan.specs.Lists.{all, part}
+use Rattle.scan.specs.Text.{text, seen, is}
+use Rattle.scan.specs.Lists.{all, part, isName}
 use Rattle.scan.specs.Found.{FirstOf, Holds}
-use Rattle.scan.specs.Classes.{isName}
-use Rattle.scan.specs.Compare.{seen}
-use Rattle.scan.specs.Cut.{is}
 use Rattle.scan.specs.declared.Case.the-variants.{Counts}
 use Rattle.scan.proofs.Bools.{never, by-cases}
 use Rattle.scan.proofs.Parts.{part-rest, holds-inside, named-by}

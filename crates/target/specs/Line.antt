@@ -3,8 +3,7 @@ use Prim.Native.Nat.{ℕ}
 use mathlib.Core.Bool.{Bool, not, _&&_}
 use mathlib.Core.List.{List, []}
 use lib.ListN.{getD, length}
-use Rattle.scan.specs.Trim.{isEmpty}
-use Rattle.scan.specs.Cut.{cut}
+use Rattle.scan.specs.Text.{isEmpty, cut}
 use lib.Dec.{eqb}
 use Rattle.scan.specs.Lists.{all}
 

@@ -13,9 +13,8 @@ use lib.ListN.{length}
 use Rattle.scan.specs.Found.{Holds}
 use Rattle.target.specs.Line.{isThree, linePart}
 use Rattle.digits.specs.declared.Read.the-variants.{Value}
-use Rattle.scan.specs.Lists.{first}
-use Rattle.scan.specs.Cut.{is, before}
-use Rattle.scan.specs.Classes.{areNameBytes}
+use Rattle.scan.specs.Lists.{first, areNameBytes}
+use Rattle.scan.specs.Text.{is, before}
 
 -- the answer to a line that has not three parts
 abbrev pub noParts : Parts

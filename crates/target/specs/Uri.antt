@@ -4,12 +4,8 @@ use Prim.Native.Nat.{ℕ}
 use mathlib.Core.Bool.{Bool, true, cond, _&&_}
 use mathlib.Core.List.{List}
 use lib.ListN.{length, drop}
-use Rattle.scan.specs.Text.{text}
-use Rattle.scan.specs.Lists.{part}
-use Rattle.scan.specs.Classes.{areNameBytes}
-use Rattle.scan.specs.Compare.{areAlike}
-use Rattle.scan.specs.Cut.{before, after, has}
-use Rattle.scan.specs.Trim.{isEmpty}
+use Rattle.scan.specs.Text.{text, areAlike, before, after, has, isEmpty}
+use Rattle.scan.specs.Lists.{part, areNameBytes}
 use Rattle.scan.specs.declared.Case.the-variants.{Counts}
 use Rattle.digits.specs.Reading.{readNumber, atLeast, isValue}
 use Rattle.digits.specs.declared.Read.{Read}

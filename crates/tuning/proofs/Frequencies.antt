@@ -7,9 +7,9 @@ use native.Mathlib.Omega.{arith}
 use lib.Dec.{eqb, ltb, leb}
 use lib.ListN.{length, drop, take, length-append, drop-of-length-le}
 use borrow.Author.Tests.{lt-ltb, le-ltb, eq-eqb, ne-eqb, lt-leb, eqb-true, ltb-false}
-use Rattle.scan.specs.Lists.{first, part}
+use Rattle.scan.specs.Lists.{first, part, isBetween}
 use Rattle.scan.specs.Found.{FirstOf}
-use Rattle.scan.specs.Cut.{is, before, after, has}
+use Rattle.scan.specs.Text.{is, before, after, has, text, _&_}
 use Rattle.scan.proofs.Bools.{cond-keeps, and-and, by-test}
 use Rattle.scan.proofs.Parts.{part-rest, part-length}
 use Rattle.digits.specs.Reading.{readNumber, digitOf, areDigits, spelled, atLeast}
@@ -19,8 +19,6 @@ use Rattle.digits.specs.declared.Zeros.the-variants.{Allowed}
 use Rattle.digits.proofs.Limits.{Is-read, number-most}
 use Rattle.tuning.specs.Found.{megahertz, tenfold, fraction, hundredths, frequencyFrom, inBand}
 use native.Mathlib.Nat.{sub-zero}
-use Rattle.scan.specs.Text.{text, _&_}
-use Rattle.scan.specs.Classes.{isBetween}
 use Rattle.scan.proofs.Loops.{first-within}
 use Rattle.digits.proofs.Positions.{valueFrom}
 use Rattle.digits.proofs.Spelling.{all-digits}

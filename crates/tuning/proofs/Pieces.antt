@@ -8,7 +8,7 @@ use native.Mathlib.Omega.{arith}
 use lib.ListN.{length}
 use Rattle.scan.specs.Lists.{all, part}
 use Rattle.scan.specs.Found.{FirstFrom, cutFrom}
-use Rattle.scan.specs.Cut.{is, cut}
+use Rattle.scan.specs.Text.{is, cut}
 use Rattle.scan.proofs.Cuts.{cut-start, cut-turn, cut-end}
 
 -- every piece before place p passes

@@ -8,9 +8,7 @@ use lib.Dec.{ltb, eqb}
 use lib.ListN.{length}
 use borrow.Author.Tests.{le-ltb}
 use Rattle.scan.specs.Lists.{first}
-use Rattle.scan.specs.Compare.{areAlike}
-use Rattle.scan.specs.Cut.{cut}
-use Rattle.scan.specs.Words.{placeAmong}
+use Rattle.scan.specs.Text.{areAlike, cut, placeAmong}
 use Rattle.scan.specs.Found.{isWord}
 use Rattle.scan.specs.declared.Case.the-variants.{Counts}
 use Rattle.scan.proofs.Places.{None, place-alike, place-none}

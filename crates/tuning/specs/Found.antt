@@ -2,16 +2,14 @@
 use Prim.Native.Nat.{ℕ, _+_, _*_}
 use mathlib.Core.Bool.{Bool, cond}
 use mathlib.Core.List.{List}
-use Rattle.scan.specs.Classes.{isBetween}
+use Rattle.scan.specs.Lists.{isBetween, first}
 use Rattle.digits.specs.Reading.{readNumber, isValue}
 use Rattle.digits.specs.declared.Read.{Read}
 use Rattle.digits.specs.declared.Read.the-variants.{Value, Nothing}
 use Rattle.digits.specs.declared.Zeros.the-variants.{Allowed}
 use lib.Dec.{eqb}
 use lib.ListN.{length}
-use Rattle.scan.specs.Lists.{first}
-use Rattle.scan.specs.Cut.{is, before, after, has}
-use Rattle.scan.specs.Text.{text}
+use Rattle.scan.specs.Text.{is, before, after, has, text}
 
 -- the names of the table
 abbrev pub names : List ℕ

@@ -1,8 +1,7 @@
 -- Document 01's table by examples: what some texts are worth, by computation. Assumes nothing.
 use Prim.Native.String.{String}
 use mathlib.Core.Path.{_≡_, refl}
-use Rattle.scan.specs.Text.{text}
-use Rattle.scan.specs.Words.{placeAmong}
+use Rattle.scan.specs.Text.{text, placeAmong}
 use Rattle.digits.specs.Reading.{readNumber}
 use Rattle.digits.specs.declared.Read.{Read}
 use Rattle.digits.specs.declared.Read.the-variants.{Value, Nothing}

@@ -4,16 +4,13 @@ use mathlib.Core.Bool.{Bool, cond, not, _||_, _&&_}
 use mathlib.Core.List.{List}
 use lib.Dec.{ltb, eqb}
 use lib.ListN.{length, take}
-use Rattle.scan.specs.Text.{text, _&_}
-use Rattle.scan.specs.Lists.{all, _gives_or_}
-use Rattle.scan.specs.Cut.{cut, before, after, has}
-use Rattle.scan.specs.Words.{placeAmong}
+use Rattle.scan.specs.Text.{text, _&_, cut, before, after, has, placeAmong}
+use Rattle.scan.specs.Lists.{all, _gives_or_, isBetween}
 use Rattle.scan.specs.declared.Case.the-variants.{Counts}
 use Rattle.digits.specs.Reading.{readNumber, atLeast, isValue}
 use Rattle.digits.specs.declared.Read.{Read}
 use Rattle.digits.specs.declared.Read.the-variants.{Value, Nothing}
 use Rattle.digits.specs.declared.Zeros.the-variants.{Allowed}
-use Rattle.scan.specs.Classes.{isBetween}
 
 -- an attribute by its name, whose case counts: its place in the table, from 0 on; 13 for a name that is none of them
 unfoldable pub attributeOf : List ℕ → ℕ

@@ -13,8 +13,7 @@ use lib.Seq.{sets}
 use borrow.Author.Tests.{le-leb, lt-leb, lt-ltb, le-ltb, ne-eqb}
 use Rattle.scan.proofs.Bools.{by-cases}
 use Rattle.scan.specs.Text.{text, _&_}
-use Rattle.digits.specs.Positional.{digitsIn, valueIn}
-use Rattle.digits.specs.Reading.{digitOf, areDigits, spelled, readIn, hasLeadingZero, readNumber, readHex8}
+use Rattle.digits.specs.Reading.{digitsIn, valueIn, digitOf, areDigits, spelled, readIn, hasLeadingZero, readNumber, readHex8}
 use Rattle.writing.specs.Writing.{shown, numeral, widthIn, width, decimal, hex8, dotted, written}
 use Rattle.writing.specs.Wrote.{Wrote}
 use Rattle.digits.specs.declared.Zeros.{Zeros}

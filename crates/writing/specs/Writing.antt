@@ -3,7 +3,7 @@ use Prim.Native.Nat.{ℕ, zero, suc, _+_, _/_, _-_, _%_}
 use mathlib.Core.Bool.{cond}
 use mathlib.Core.List.{List, map, _++_}
 use lib.Dec.{ltb}
-use Rattle.digits.specs.Positional.{digitsIn}
+use Rattle.digits.specs.Reading.{digitsIn}
 use lib.ListN.{length, take, drop}
 use Rattle.scan.specs.Text.{text, _&_}
 

@@ -1,7 +1,7 @@
 -- `finding::is_held` meets its contract. Assumes nothing.
 use mathlib.Core.Path.{_∙_, ap}
 use borrow.Author.Needs.{needs}
-use Rattle.table.specs.Counts.{isAmong}
+use Rattle.table.specs.Table.{isAmong}
 use Rattle.finding.proofs.is_held.Statement.{statement}
 use Rattle.finding.proofs.is_held.Tie as tie
 

@@ -5,10 +5,8 @@ use mathlib.Core.Bool.{Bool, true}
 use mathlib.Core.List.{List}
 use Prim.Native.Nat.{ℕ}
 use borrow.Author.Needs.{needs}
-use Rattle.scan.specs.Text.{text}
+use Rattle.scan.specs.Text.{text, areAlike, cut}
 use Rattle.scan.specs.Lists.{first}
-use Rattle.scan.specs.Compare.{areAlike}
-use Rattle.scan.specs.Cut.{cut}
 use Rattle.scan.specs.Found.{isWord}
 use Rattle.scan.specs.declared.Case.the-variants.{Counts}
 use Rattle.scan.proofs.Places.{None, miss, none, place-alike, place-none}

@@ -11,7 +11,7 @@ use Rattle.table.specs.Made.{settingsOf, fresh, madeOf}
 use Rattle.table.specs.declared.Made.{Made}
 use Rattle.table.specs.declared.Outcome.the-variants.{Done}
 use Rattle.table.proofs.Fresh.{fresh-formed}
-use Rattle.satbox.specs.Requests.{requestOutcome, replied, repliedInto}
+use Rattle.satbox.specs.Calls.{requestOutcome, replied, repliedInto}
 use Rattle.satbox.specs.declared.Replied.{Replied}
 use Rattle.request.specs.Program.{printed}
 use Rattle.request.proofs.answer.Statement.{statement}

@@ -2,7 +2,7 @@
 use Prim.Native.Nat.{_-_}
 use lib.ListN.{length}
 use borrow.Author.Needs.{needs}
-use Rattle.scan.specs.Compare.{seen}
+use Rattle.scan.specs.Text.{seen}
 use Rattle.scan.proofs.Compares.{Matching, alike-long, matching-start, matching-more, matching-not, matching-end}
 use Rattle.scan.proofs.are_alike.Statement.{statement}
 use Rattle.scan.proofs.are_alike.Tie as tie

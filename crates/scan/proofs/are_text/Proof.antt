@@ -2,7 +2,7 @@
 use Prim.Native.Nat.{_-_}
 use lib.ListN.{length}
 use borrow.Author.Needs.{needs}
-use Rattle.scan.specs.Classes.{isText}
+use Rattle.scan.specs.Lists.{isText}
 use Rattle.scan.proofs.Loops.{Telling, telling-start, telling-more, telling-end}
 use Rattle.scan.proofs.are_text.Statement.{statement}
 use Rattle.scan.proofs.are_text.Tie as tie

@@ -3,7 +3,7 @@ use Prim.Native.Nat.{_-_}
 use native.Mathlib.Omega.{arith}
 use lib.ListN.{length}
 use borrow.Author.Needs.{needs}
-use Rattle.scan.specs.Classes.{isText}
+use Rattle.scan.specs.Lists.{isText}
 use Rattle.scan.specs.Found.{inClass}
 use Rattle.scan.specs.declared.Class.the-variants.{NotText}
 use Rattle.scan.proofs.Loops.{Seeking, seeking-start, seeking-block, seeking-rest}

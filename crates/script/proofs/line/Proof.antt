@@ -7,7 +7,7 @@ use Prim.Native.Nat.{ℕ, _-_, _<_}
 use lib.ListN.{length, drop, drop-of-length-le}
 use Rattle.scan.specs.Lists.{first, part}
 use Rattle.scan.specs.Found.{FirstFrom}
-use Rattle.scan.specs.Cut.{is}
+use Rattle.scan.specs.Text.{is}
 use Rattle.script.specs.Lines.{firstLine, lineAt}
 use Rattle.script.proofs.line.Statement.{statement}
 use Rattle.script.proofs.line.Tie as tie

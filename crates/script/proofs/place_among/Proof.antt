@@ -2,7 +2,7 @@
 use Prim.Native.Nat.{_+_, _-_}
 use lib.ListN.{length}
 use borrow.Author.Needs.{needs}
-use Rattle.scan.specs.Words.{placeAmong}
+use Rattle.scan.specs.Text.{placeAmong}
 use Rattle.scan.specs.Found.{isWord}
 use Rattle.scan.proofs.Cuts.{Among, among-start, among-hit, among-more, among-end}
 use Rattle.script.proofs.place_among.Statement.{statement}

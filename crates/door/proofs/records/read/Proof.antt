@@ -1,7 +1,7 @@
 -- `door::records::read` meets its contract. Assumes nothing.
 use mathlib.Core.Path.{_∙_, ap}
 use borrow.Author.Needs.{needs}
-use Rattle.door.specs.Records.{readFrom}
+use Rattle.door.specs.Turns.{readFrom}
 use Rattle.door.proofs.records.read.Statement.{statement}
 use Rattle.door.proofs.records.read.Tie as tie
 
