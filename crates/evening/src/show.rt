@@ -128,7 +128,7 @@ fn streams(t: SatBox) {
 pub(crate) fn table(t: SatBox) {
     out::number(b"  frontends ", t.settings.frontends as u32);
     out::number(b" size ", t.settings.size);
-    if formed::is_well_formed(t) {
+    if formed::is_well(formed::standing_of(t)) {
         out::text(b", well formed");
     } else {
         out::text(b", not well formed");

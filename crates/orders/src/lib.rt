@@ -90,7 +90,7 @@ fn order_for(t: SatBox, n: u32) -> Order
 fn judged(t: SatBox, n: u32) -> u32
     ensures { λ r. ⌜ r ≡ cond (wellFormed t) (cond (isBetween 1 (t .settings .frontends) n) 0 2) 1 ⌝ }
 {
-    if !formed::is_well_formed(t) {
+    if !formed::is_well(formed::standing_of(t)) {
         return 1;
     }
     if (n == 0) | ((t.settings.frontends as u32) < n) {

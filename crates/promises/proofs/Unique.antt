@@ -180,6 +180,9 @@ stream-are-complete κs a x y v w = same
 pub stream-is-sound : Unique stream.is_sound.ended stream.is_sound.Reads.Post
 stream-is-sound κs a x y v w = same
 
+pub stream-is-unused : Unique stream.is_unused.ended stream.is_unused.Reads.Post
+stream-is-unused κs a x y v w = same
+
 pub stream-merge : Unique stream.merge.ended stream.merge.Reads.Post
 stream-merge κs a x y v w = same
 
@@ -197,8 +200,14 @@ pub table-are-distinct : Unique table.are_distinct.ended table.are_distinct.Read
 table-are-distinct κs a x y v w = same
 
 -- FORMED
-pub formed-is-well-formed : Unique formed.is_well_formed.ended formed.is_well_formed.Reads.Post
-formed-is-well-formed κs a x y v w = same
+pub formed-standing-of : Unique formed.standing_of.ended formed.standing_of.Reads.Post
+formed-standing-of κs a x y v w = same
+
+pub formed-is-well : Unique formed.is_well.ended formed.is_well.Reads.Post
+formed-is-well κs a x y v w = same
+
+pub formed-oldest-in : Unique formed.oldest_in.ended formed.oldest_in.Reads.Post
+formed-oldest-in κs a x y v w = same
 
 pub table-number : Unique table.number.ended table.number.Reads.Post
 table-number κs a x y v w = same
@@ -261,8 +270,8 @@ closings-one κs a x y v w = same
 pub closings-aged : Unique closings.aged.ended closings.aged.Reads.Post
 closings-aged κs a x y v w = same
 
-pub closings-is-any-expired : Unique closings.is_any_expired.ended closings.is_any_expired.Reads.Post
-closings-is-any-expired κs a x y v w = same
+pub closings-is-expired : Unique closings.is_expired.ended closings.is_expired.Reads.Post
+closings-is-expired κs a x y v w = same
 
 pub closings-close-due : Unique closings.close_due.ended closings.close_due.Reads.Post
 closings-close-due κs a x y v w p q = (one (p .satbox) (q .satbox), λ i. (tt, (one (p .journal) (q .journal) i, (tt, tt))))

@@ -1,25 +1,28 @@
 -- The calls by the ways they end: each refusal, and done. Assumes nothing.
 use mathlib.Core.Path.{_≡_, refl, sym, _∙_, ap, subst}
-use mathlib.Core.Bool.{Bool, true, false, not}
-use mathlib.Core.List.{List, _++_}
-use Prim.Native.Nat.{ℕ, _-_, _≤_, max}
+use mathlib.Core.Bool.{Bool, true, false, cond, not, _&&_, _||_}
+use mathlib.Core.List.{List, [], _∷_, _++_}
+use Prim.Native.Nat.{ℕ, _+_, _-_, _≤_, _<_, min, max}
 use native.Mathlib.Omega.{arith}
-use lib.Dec.{eqb, ltb}
+use lib.Dec.{eqb, leb, ltb}
 use lib.ListN.{length, take, drop, length-take}
-use borrow.Author.Tests.{eqb-true, ltb-false, not-true}
+use borrow.Author.Tests.{eqb-true, ltb-false, le-leb, lt-leb, leb-true, leb-false, not-true}
 use Rattle.scan.specs.Lists.{part}
-use Rattle.scan.proofs.Bools.{never}
+use Rattle.scan.proofs.Bools.{never, Case, is, isnt, case}
 use Rattle.writing.specs.Wrote.{Wrote}
 use Rattle.writing.specs.Writing.{written}
 use Rattle.writing.proofs.Writes.{wrote-front, wrote-as}
 use Rattle.table.specs.Table.{any}
 use Rattle.table.specs.Formed.{wellFormed}
+use Rattle.table.specs.Table.{isFree}
+use Rattle.table.specs.declared.Session.{Session}
 use Rattle.table.specs.declared.SatBox.{SatBox}
 use Rattle.table.specs.declared.Refusal.{Refusal}
 use Rattle.table.specs.declared.Refusal.the-variants.{Table, Journal, Buffer}
 use Rattle.table.specs.declared.Outcome.{Outcome}
 use Rattle.table.specs.declared.Outcome.the-variants.{Done, Refused}
 use Rattle.table.proofs.Rules.{formed}
+use Rattle.formed.specs.Standings.{latest, oldest}
 use Rattle.closings.specs.Does.{Does}
 use Rattle.closings.specs.Closing.{bytesOf, isExpired, swept, sweeping, atClock}
 use Rattle.closings.specs.DueAt.{closingDue, agedAt}
@@ -27,6 +30,7 @@ use Rattle.closings.specs.declared.Due.{Due}
 use Rattle.satbox.specs.Calls.{_else_andThen_, ifDone, tickOutcome, ticked, tickedJournal, emptied, collectOutcome, collected, collectedInto}
 use Rattle.satbox.specs.declared.Ticked.{Ticked}
 use Rattle.satbox.specs.declared.Collected.{Collected}
+use Rattle.closings.proofs.Closings.{age-is}
 use Rattle.closings.proofs.DoesLaws.{does-as}
 use Rattle.closings.proofs.Dues.{swept-aged, does-idle}
 use Rattle.closings.proofs.Keeping.{Whole, clock-whole}
@@ -42,8 +46,26 @@ aged-swept {t} {u} {r} {j} {k} clock w e f p =
     let q = does-as (ap (λ d. closingDue d u) f ∙ swept-aged u (subst Whole (sym e) (clock-whole clock t w))) p in
     subst (λ x. Does x j (swept x) r k) e q
 
-pub idle-swept : {u : SatBox} {j : List ℕ} {b : Bool} (t : SatBox) (clock : ℕ) → u ≡ atClock clock t → b ≡ any (isExpired (u .clock)) (u .sessions) → b ≡ false → Does (atClock clock t) j (sweeping clock t) u j
-idle-swept {u} {j} t clock e f n = subst (λ x. Does x j (swept x) u j) e (does-idle (sym f ∙ n))
+-- the oldest last time says whether somebody has expired
+oldest-age : (clock : ℕ) (l : List Session) → clock ≤ latest → leb (oldest l + 60) clock ≡ any (isExpired clock) l
+oldest-age clock [] h = lt-leb (latest + 60) clock (omega arith)
+oldest-age clock (s ∷ l) h = by (isFree s) (oldest-age clock l h)
+  where
+    two : (a b : ℕ) → clock < a + 60 → Case (leb (b + 60) clock) → leb (min a b + 60) clock ≡ leb (b + 60) clock
+    two a b k (is y) = let m = leb-true (b + 60) clock y in le-leb (min a b + 60) clock (omega arith) ∙ sym y
+    two a b k (isnt n) = let m = leb-false (b + 60) clock n in lt-leb (min a b + 60) clock (omega arith) ∙ sym n
+
+    one : (a b : ℕ) → Case (leb (a + 60) clock) → leb (min a b + 60) clock ≡ leb (a + 60) clock || leb (b + 60) clock
+    one a b (is y) = let k = leb-true (a + 60) clock y in rw y (le-leb (min a b + 60) clock (omega arith))
+    one a b (isnt n) = rw n (two a b (leb-false (a + 60) clock n) (case _))
+
+    by : (free : Bool) {r : Bool} → leb (oldest l + 60) clock ≡ r → leb (cond free (oldest l) (min (s .last) (oldest l)) + 60) clock ≡ (not free && leb 60 (clock - s .last)) || r
+    by true e = e
+    by false e = one (s .last) (oldest l) (case _) ∙ rw (age-is clock (s .last), e)
+
+pub idle-swept : {u : SatBox} {j : List ℕ} {old : ℕ} {b : Bool} (t : SatBox) (clock : ℕ) → u ≡ atClock clock t → old ≡ oldest (u .sessions) → u .clock ≤ latest → b ≡ leb (old + 60) (u .clock) → b ≡ false
+    → Does (atClock clock t) j (sweeping clock t) u j
+idle-swept {u} {j} t clock e o h f n = subst (λ x. Does x j (swept x) u j) e (does-idle (sym (f ∙ rw o (oldest-age (u .clock) (u .sessions) h)) ∙ n))
 
 pub formed-held : (t : SatBox) → wellFormed t ≡ true → t .held ≤ t .settings .size
 formed-held t e = omega (arith, formed t e .fits .bound)

@@ -16,20 +16,9 @@ use Rattle.stream.specs.declared.Stream.{Stream}
 use Rattle.stream.proofs.Padding.{zeros-are}
 
 -- a place where no stream is
-module _ (f : ℕ) (m : Stream) (unused : m .frontend ≡ 0) {v : Bool} (values : v ≡ areNone (m .values)) where
-  zeros : isSound f m ≡ v && (eqb (m .count) 0 && eqb (m .all) 0 && all isZero (m .pids))
-  unfolding isSound areZero
-  zeros = rw (eq-eqb (m .frontend) 0 unused, values)
-
-  pub unused-values : not v ≡ true → false ≡ isSound f m
-  unused-values n = rw (zeros, not-true v n)
-
-  module _ (y : not v ≡ false) where
-    pub unused-count : not (eqb (m .count) 0 && eqb (m .all) 0) ≡ true → false ≡ isSound f m
-    unused-count n = rw (zeros, not-false v y, not-true (eqb (m .count) 0 && eqb (m .all) 0) n)
-
-    pub unused-pids : not (eqb (m .count) 0 && eqb (m .all) 0) ≡ false → {r : Bool} → r ≡ all isZero (drop 0 (m .pids)) → r ≡ isSound f m
-    unused-pids n e = e ∙ rw (zeros, not-false v y, not-false (eqb (m .count) 0 && eqb (m .all) 0) n)
+pub unused-is : (f : ℕ) (m : Stream) → m .frontend ≡ 0 → isSound f m ≡ areZero m
+unfolding isSound
+unused-is f m unused = rw (eq-eqb (m .frontend) 0 unused)
 
 -- a live stream
 module _ (f : ℕ) (m : Stream) (used : m .frontend ≡ 0 → ⊥) where
@@ -110,8 +99,9 @@ unused-values-none v e =
     w
 
 pub sound-unused : (f : ℕ) (m : Stream) → isSound f m ≡ true → m .frontend ≡ 0 → length (m .pids) ≡ 32 → m ≡ noStream
+unfolding areZero
 sound-unused f m e u h =
-    let a = and-both (areNone (m .values)) (eqb (m .count) 0 && eqb (m .all) 0 && all isZero (m .pids)) (sym (zeros f m u refl) ∙ e) in
+    let a = and-both (areNone (m .values)) (eqb (m .count) 0 && eqb (m .all) 0 && all isZero (m .pids)) (sym (unused-is f m u) ∙ e) in
     let b = and-both (eqb (m .count) 0 && eqb (m .all) 0) (all isZero (m .pids)) (a .1) in
     let c = and-both (eqb (m .count) 0) (eqb (m .all) 0) (b .0) in
     let v : m .values ≡ (onlySrc 0) = unused-values-none (m .values) (a .0) in

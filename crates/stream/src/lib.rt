@@ -4,7 +4,7 @@ mod pids;
 
 pub use attributes::are_complete;
 ghost use mathlib.Core.Path.{_≡_};
-ghost use Rattle.stream.specs.Streams.{blank, isSound, mergeOf};
+ghost use Rattle.stream.specs.Streams.{blank, areZero, isSound, mergeOf};
 use attributes::are_in_range;
 use attributes::are_none;
 use attributes::go_together;
@@ -85,19 +85,21 @@ impl Stream {
     }
 }
 
+// Whether a place where no stream is has zeros alone, its frontend aside.
+pub fn is_unused(m: Stream) -> bool
+    ensures { λ r. ⌜ r ≡ areZero m ⌝ }
+{
+    let v = m.values;
+    are_none(v) & ((m.count == 0) & (m.all == 0) & are_zero(&m.pids, 0))
+}
+
 // Whether a place is one that a table may have on a box with so many frontends.
 pub fn is_sound(m: Stream, frontends: u16) -> bool
     ensures { λ r. ⌜ r ≡ isSound frontends m ⌝ }
 {
     let v = m.values;
     if m.frontend == 0 {
-        if !are_none(v) {
-            return false;
-        }
-        if !((m.count == 0) & (m.all == 0)) {
-            return false;
-        }
-        return are_zero(&m.pids, 0);
+        return is_unused(m);
     }
     if frontends < m.frontend as u16 {
         return false;

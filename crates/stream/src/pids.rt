@@ -15,7 +15,7 @@ use digits::Zeros;
 use scan::Class;
 
 // Whether an array is all zeros from a place on. There is no early way out, so that many places can be looked at at once.
-pub(crate) fn are_zero(pids: &[u16], from: usize) -> bool
+fn are_zero_from(pids: &[u16], from: usize) -> bool
     ensures { λ r. ⌜ r ≡ all isZero (drop from (now (pids .entry))) ⌝ }
 {
     let mut zero = true;
@@ -27,27 +27,43 @@ pub(crate) fn are_zero(pids: &[u16], from: usize) -> bool
     zero
 }
 
-// Whether an array is `count` PIDs that ascend, and zeros after them.
+// The same. Most lists are short: behind the eighth place it is then known how many are looked at.
+pub(crate) fn are_zero(pids: &[u16], from: usize) -> bool
+    ensures { λ r. ⌜ r ≡ all isZero (drop from (now (pids .entry))) ⌝ }
+{
+    if pids.len() < 8 {
+        return are_zero_from(pids, from);
+    }
+    if 8 < from {
+        return are_zero_from(pids, from);
+    }
+    are_zero_from(&pids[0..8], from) & are_zero_from(pids, 8)
+}
+
+fn wide(p: u16) -> u32
+    ensures { λ r. ⌜ (r ≡ p) × (r < 65536) ⌝ }
+{
+    p as u32
+}
+
+// Whether an array is `count` PIDs that ascend, and zeros after them. The last PID is the highest: it alone is held to 8191.
 pub(crate) fn is_padded(pids: &[u16], count: usize) -> bool
     ensures { λ r. ⌜ r ≡ isPadded count 0 (now (pids .entry)) ⌝ }
 {
     if pids.len() < count {
         return false;
     }
-    let mut least: u16 = 0;
+    let mut least: u32 = 0;
     let mut i = 0;
     while i < count {
-        let p = pids[i];
+        let p = wide(pids[i]);
         if p < least {
-            return false;
-        }
-        if 8191 < p {
             return false;
         }
         least = p + 1;
         i += 1;
     }
-    are_zero(pids, count)
+    (least <= 8192) & are_zero(pids, count)
 }
 
 // Where a PID stands in an ascending list, or before which place it belongs.

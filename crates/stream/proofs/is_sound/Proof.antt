@@ -1,6 +1,7 @@
 -- `stream::is_sound` meets its contract. Assumes nothing.
+use mathlib.Core.Path.{_∙_, sym}
 use borrow.Author.Needs.{needs}
-use Rattle.stream.proofs.Soundness.{unused-values, unused-count, unused-pids, live-past, live-values, live-apart, live-flag, live-both, live-pids}
+use Rattle.stream.proofs.Soundness.{unused-is, live-past, live-values, live-apart, live-flag, live-both, live-pids}
 use Rattle.stream.proofs.is_sound.Statement.{statement}
 use Rattle.stream.proofs.is_sound.Tie as tie
 
@@ -9,10 +10,7 @@ is-sound-spec =
     tie.close
     (tie.spec
     (λ c κs. search needs)
-    (λ c. search (unused-values, needs))
-    (λ c. search (unused-count, needs))
-    (λ c κs. search needs)
-    (λ c. search (unused-pids, needs))
+    (λ c. search (unused-is, needs))
     (λ c. search needs)
     (λ c. search (live-past, needs))
     (λ c κs. search needs)

@@ -1,27 +1,26 @@
--- `stream::pids::are_zero` meets its contract. Invariant: `zero` says whether the places up to i are zeros. Assumes nothing.
-use Prim.Native.Nat.{_-_}
-use lib.ListN.{length}
+-- `stream::pids::are_zero` meets its contract. Assumes nothing.
+use mathlib.Core.Path.{_∙_}
 use borrow.Author.Needs.{needs}
-use Rattle.stream.proofs.Arrays.{Zeros, zeros-start, zeros-more, zeros-end}
+use Rattle.stream.proofs.Arrays.{zeros-split}
 use Rattle.stream.proofs.pids.are_zero.Statement.{statement}
 use Rattle.stream.proofs.pids.are_zero.Tie as tie
 
-abbrev Inv-loop : tie.InvT-loop
-Inv-loop pids from zero₀ i₀ zero i = Zeros pids from i zero
-
-abbrev μ-loop : tie.MeasureT-loop
-μ-loop pids from zero₀ i₀ zero i = length pids - i
+returns-3 : tie.Need-returns-3
+returns-3 c =
+    let d = c .before .before .before .before .before .before in
+    rw (c .before .are-zero-from3 .ensures, c .are-zero-from4 .ensures) (zeros-split 8 (d .args .from) (d .args .pids .now) (search needs))
 
 pub are-zero-spec : {M : Type 1} → statement M
 are-zero-spec =
     tie.close
     (tie.spec
-    Inv-loop
-    μ-loop
-    (λ c. search zeros-start)
+    (λ c κs. search needs)
+    (λ c. search needs)
+    (λ c κs. search needs)
     (λ c. search needs)
     (λ c. search needs)
     (λ c. search needs)
     (λ c. search needs)
-    (λ c. search (zeros-more, needs))
-    (λ c. search (zeros-end, needs)))
+    (λ c κs. search needs)
+    (λ c κs. search needs)
+    returns-3)
