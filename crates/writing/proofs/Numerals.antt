@@ -5,13 +5,13 @@ use mathlib.Core.Bool.{Bool, true, false, _&&_, and-false}
 use mathlib.Core.List.{List, [], _∷_, _++_, map}
 use Prim.Native.Nat.{ℕ, zero, suc, _+_, _-_, _/_, _%_, _^_, _≤_, _<_, min}
 use native.Mathlib.Decide.{decLt}
-use native.Mathlib.Nat.{pow-suc, div-lt-iff-lt-mul, mod-lt, mod-eq-of-lt, pow-le-pow-right}
+use native.Mathlib.Nat.{add-zero, zero-add, add-suc, suc-add, pow-suc, div-lt-iff-lt-mul, mod-lt, mod-eq-of-lt, pow-le-pow-right}
 use native.Mathlib.Omega.{arith}
-use lib.Dec.{ltb}
+use lib.Dec.{ltb, eqb}
 use lib.ListN.{length, getD, set, length-append, length-map, length-set, List·getD-append}
 use lib.Seq.{sets}
-use borrow.Author.Tests.{le-leb, lt-leb, lt-ltb, le-ltb, ne-eqb}
-use Rattle.scan.proofs.Bools.{by-cases}
+use borrow.Author.Tests.{le-leb, lt-leb, lt-ltb, le-ltb, ne-eqb, eqb-true}
+use Rattle.scan.proofs.Bools.{by-cases, and-both}
 use Rattle.scan.specs.Text.{text, _&_}
 use Rattle.digits.specs.Reading.{digitsIn, valueIn, digitOf, areDigits, spelled, readIn, hasLeadingZero, readNumber, readHex8}
 use Rattle.writing.specs.Writing.{shown, numeral, widthIn, width, decimal, hex8, dotted, written}
@@ -142,6 +142,28 @@ numbering-end {b} {d} {at} {base} {count} {v} {i} {rest} {next} n h e =
     let l : length (numeral base count v) ≡ count = numeral-length base count v in
     record { is = (rw z at (n .same)); place = omega arith }
 
+pub numbering-fits : {b d : List ℕ} {at base count v i rest : ℕ} → Numbering b at base count v d i rest → i ≤ 0 → at + count ≤ length b
+    → Wrote b at (numeral base count v) d (at + count)
+numbering-fits n h f = numbering-end n h (rw (n .kept) (omega arith))
+
+-- the byte of a decimal digit, and of a hexadecimal one by its place
+pub ten-shown : (v : ℕ) → 48 + v % 10 ≡ shown (v % 10)
+ten-shown v = let h : v % 10 < 10 = omega arith in rw (lt-ltb (v % 10) 10 h)
+
+-- the bytes of a list show the digits from i on
+abbrev areShown : ℕ → List ℕ → Bool
+areShown i [] = true
+areShown i (x ∷ xs) = eqb x (shown i) && areShown (suc i) xs
+
+shown-along : (xs : List ℕ) (i k : ℕ) → areShown i xs ≡ true → k < length xs → getD xs k 0 ≡ shown (i + k)
+shown-along [] i k e h = absurd (omega arith)
+shown-along (x ∷ xs) i zero e h = rw add-zero (eqb-true x (shown i) (and-both (eqb x (shown i)) (areShown (suc i) xs) e .0))
+shown-along (x ∷ xs) i (suc k) e h =
+    rw (add-suc, ← suc-add) (shown-along xs (suc i) k (and-both (eqb x (shown i)) (areShown (suc i) xs) e .1) (omega arith))
+
+pub sixteen-shown : (v : ℕ) → getD (text "0123456789ABCDEF") (v % 16) 0 ≡ shown (v % 16)
+sixteen-shown v = shown-along (text "0123456789ABCDEF") 0 (v % 16) refl (omega arith) ∙ ap shown (zero-add (v % 16))
+
 -- WHAT IS WRITTEN IS READ BACK
 digit-shown : (d : ℕ) → d < 16 → digitOf (shown d) ≡ d
 digit-shown d h =
@@ -234,6 +256,12 @@ read-decimal zeros m limit v h l r =
 pub wrote-decimal : {b d : List ℕ} {at next n : ℕ} (v : ℕ) → n ≡ width v → Wrote b at (numeral 10 n v) d next → Wrote b at (decimal v) d next
 unfolding decimal
 wrote-decimal v e w = rw e at w
+
+pub wrote-digit : {b : List ℕ} {at v : ℕ} → v < 10 → at < length b → Wrote b at (decimal v) (set b at (48 + v)) (at + 1)
+unfolding decimal width
+wrote-digit {b} {at} {v} h f =
+    let e : decimal v ≡ (48 + v) ∷ [] = rw (width-small 18 v h) (one-digit v h) in
+    rw e (record { is = sym (written-sets b at ((48 + v) ∷ [])); place = omega arith })
 
 pub wrote-hex8 : {b d : List ℕ} {at next : ℕ} (v : ℕ) → Wrote b at (numeral 16 8 v) d next → Wrote b at (hex8 v) d next
 unfolding hex8

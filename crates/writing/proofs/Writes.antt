@@ -122,6 +122,9 @@ storing-more {b} {t} {d} {at} {i} s h =
 pub storing-end : {b t d : List ℕ} {at i : ℕ} → Storing b at t d i → length t ≤ i → at + length t ≤ length b → Wrote b at t d (at + length t)
 storing-end {b} {t} {d} {at} {i} s h f = record { is = sym (end (sets d (at + i)) t i h) ∙ s .same; place = omega arith }
 
+pub storing-some : {b t d : List ℕ} {at i : ℕ} → Storing b at t d i → length t ≤ i → d ≡ written b at t
+storing-some {b} {t} {d} {at} {i} s h = sym (end (sets d (at + i)) t i h) ∙ s .same
+
 -- of a text that does not fit, as much as fits is put
 pub wrote-some : {b d t : List ℕ} {at room next : ℕ} → at ≤ length b → room ≡ length b - at → room < length t → Wrote b at (part 0 room t) d next → Wrote b at t d (length b + 1)
 unfolding written

@@ -3,7 +3,7 @@
 ghost use mathlib.Core.Path.{_≡_};
 ghost use Prim.Native.Nat.{_+_, _-_, _≤_, _<_, min};
 ghost use lib.ListN.{length, set};
-ghost use Rattle.writing.specs.Writing.{shown, numeral, width, decimal, hex8, dotted};
+ghost use Rattle.writing.specs.Writing.{shown, numeral, width, decimal, hex8, dotted, written};
 ghost use Rattle.writing.specs.Wrote.{Wrote};
 
 // The place after `count` bytes from place `at` on, or one past `len` where they do not fit.
@@ -31,7 +31,29 @@ fn put_all(buf: &mut [u8], at: usize, t: &[u8]) -> usize
     at + t.len()
 }
 
-// Puts the text into the buffer at a place, as far as the buffer reaches, and returns the place after it.
+// Stores a byte at a place, or nothing where the buffer ends before it.
+fn store(buf: &mut [u8], at: usize, x: u8)
+    ensures { λ r. ⌜ now (buf .exit) ≡ set (now (buf .entry)) at x ⌝ }
+{
+    if at < buf.len() {
+        buf[at] = x;
+    }
+}
+
+// Puts as much of a text as fits, byte by byte.
+fn put_some(buf: &mut [u8], at: usize, t: &[u8])
+    requires { ⌜ at ≤ length (now buf) ⌝ }
+    ensures { λ r. ⌜ now (buf .exit) ≡ written (now (buf .entry)) at (now (t .entry)) ⌝ }
+{
+    let mut i = 0;
+    while i < t.len() {
+        store(buf, at + i, t[i]);
+        i += 1;
+    }
+}
+
+// Puts the text into the buffer at a place, as far as the buffer reaches, and returns the place after it. A short text of a known length, which
+// is nowhere read at a place that is not, costs its stores alone.
 pub fn put(buf: &mut [u8], at: usize, t: &[u8]) -> usize
     ensures { λ r. ⌜ Wrote (now (buf .entry)) at (now (t .entry)) (now (buf .exit)) r ⌝ }
 {
@@ -40,20 +62,14 @@ pub fn put(buf: &mut [u8], at: usize, t: &[u8]) -> usize
         return len + 1;
     }
     let room = len - at;
-    if room < t.len() {
-        put_all(buf, at, &t[0..room]);
+    if t.len() <= room {
+        put_all(buf, at, t)
+    } else if t.len() <= 12 {
+        put_some(buf, at, t);
         len + 1
     } else {
-        put_all(buf, at, t)
-    }
-}
-
-// Stores a byte at a place, or nothing where the buffer ends before it.
-fn store(buf: &mut [u8], at: usize, x: u8)
-    ensures { λ r. ⌜ now (buf .exit) ≡ set (now (buf .entry)) at x ⌝ }
-{
-    if at < buf.len() {
-        buf[at] = x;
+        put_all(buf, at, &t[0..room]);
+        len + 1
     }
 }
 
@@ -100,18 +116,65 @@ fn decimal_width(v: u32) -> usize
     n
 }
 
+// Puts the last `count` decimal digits of v, which fit, from the last to the first.
+fn put_tens(buf: &mut [u8], at: usize, v: u32, count: usize) -> usize
+    requires { ⌜ at + count ≤ length (now buf) ⌝ }
+    ensures { λ r. ⌜ Wrote (now (buf .entry)) at (numeral 10 count v) (now (buf .exit)) r ⌝ }
+{
+    let mut i = count;
+    let mut rest = v;
+    while 0 < i {
+        i -= 1;
+        buf[at + i] = b'0' + (rest % 10) as u8;
+        rest = rest / 10;
+    }
+    at + count
+}
+
 // Puts a number in decimal, without leading zeros.
 pub fn put_decimal(buf: &mut [u8], at: usize, v: u32) -> usize
     ensures { λ r. ⌜ Wrote (now (buf .entry)) at (decimal v) (now (buf .exit)) r ⌝ }
 {
-    put_digits(buf, at, v, 10, decimal_width(v))
+    if buf.len() < at {
+        return buf.len() + 1;
+    }
+    if buf.len() - at < 20 {
+        return put_digits(buf, at, v, 10, decimal_width(v));
+    }
+    if v < 10 {
+        buf[at] = b'0' + v as u8;
+        return at + 1;
+    }
+    put_tens(buf, at, v, decimal_width(v))
+}
+
+// Puts the eight hexadecimal digits of v, which fit, from the last to the first.
+fn put_sixteens(buf: &mut [u8], at: usize, v: u32) -> usize
+    requires { ⌜ at + 8 ≤ length (now buf) ⌝ }
+    ensures { λ r. ⌜ Wrote (now (buf .entry)) at (numeral 16 8 v) (now (buf .exit)) r ⌝ }
+{
+    let digits = b"0123456789ABCDEF";
+    let mut i = 8;
+    let mut rest = v;
+    while 0 < i {
+        i -= 1;
+        buf[at + i] = digits[(rest % 16) as usize];
+        rest = rest / 16;
+    }
+    at + 8
 }
 
 // Puts a number in eight upper-case hexadecimal digits.
 pub fn put_hex(buf: &mut [u8], at: usize, v: u32) -> usize
     ensures { λ r. ⌜ Wrote (now (buf .entry)) at (hex8 v) (now (buf .exit)) r ⌝ }
 {
-    put_digits(buf, at, v, 16, 8)
+    if buf.len() < at {
+        return buf.len() + 1;
+    }
+    if buf.len() - at < 8 {
+        return put_digits(buf, at, v, 16, 8);
+    }
+    put_sixteens(buf, at, v)
 }
 
 // Puts an address as its four octets in decimal with dots between them, the highest octet first.
