@@ -26,6 +26,10 @@ playLines session host stream = sessionLine session (text "\r\n") & text "RTP-In
 abbrev pub reasonFrom : ℕ → ℕ → List ℕ
 reasonFrom from status = cond (ltb status from) [] (text (reasonOf status))
 
+-- the line of a status with a reason
+abbrev pub statusWith : ℕ → List ℕ → List ℕ
+statusWith status reason = text "RTSP/1.0 " & decimal status & line " " reason
+
 -- a name, a number in decimal without leading zeros, and the line's end
 abbrev pub numbered : List ℕ → ℕ → List ℕ
 numbered name v = name & decimal v & text "\r\n"

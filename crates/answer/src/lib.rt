@@ -1,20 +1,23 @@
 // An answer's text, written straight into a lent buffer, line by line: the status line, CSeq, what its kind adds, and the empty line. Every
 // byte is written once, and nothing is copied but a host and a Require value, from where they stand in the request.
 mod puts;
+mod status;
 
 ghost use Rattle.writing.specs.Wrote.{Wrote};
 ghost use Rattle.answer.specs.Answers.{setupLines, playLines, textAt, optionsLines, linesOf, answerText};
 use digits::Read;
 use puts::put_allow;
 use puts::put_cseq;
-use puts::put_numbered;
 use puts::put_part;
 use puts::put_public;
-use puts::put_reason_line;
 use puts::put_session;
+use puts::put_session_line;
+use puts::put_stream;
+use puts::put_stream_id;
 use puts::put_transport;
 use puts::put_unsupported;
 use scan::Span;
+use status::put_status;
 
 // What an answer carries after its CSeq.
 pub enum Kind {
@@ -47,25 +50,26 @@ fn put_options(buf: &mut [u8], at: usize, a: Answer) -> usize
     if a.session == 0 {
         return put_public(buf, at);
     }
-    let n = put_session(buf, at, a.session, b"\r\n");
+    let n = put_session_line(buf, at, a.session);
     put_public(buf, n)
 }
 
 fn put_setup(buf: &mut [u8], at: usize, a: Answer) -> usize
     ensures { λ r. ⌜ Wrote (now (buf .entry)) at (setupLines (a .session) (a .address) (a .port) (a .stream)) (now (buf .exit)) r ⌝ }
 {
-    let n = put_session(buf, at, a.session, b";timeout=60\r\n");
-    let m = put_transport(buf, n, a.address, a.port);
-    put_numbered(buf, m, b"com.ses.streamID: ", a.stream)
+    let n = put_session(buf, at, a.session);
+    let m = writing::put(buf, n, b";timeout=60\r\n");
+    let k = put_transport(buf, m, a.address, a.port);
+    put_stream_id(buf, k, a.stream)
 }
 
 fn put_play(buf: &mut [u8], at: usize, a: Answer, request: &[u8]) -> usize
     ensures { λ r. ⌜ Wrote (now (buf .entry)) at (playLines (a .session) (textAt (now (request .entry)) (a .text)) (a .stream)) (now (buf .exit)) r ⌝ }
 {
-    let n = put_session(buf, at, a.session, b"\r\n");
+    let n = put_session_line(buf, at, a.session);
     let m = writing::put(buf, n, b"RTP-Info: url=rtsp://");
     let k = put_part(buf, m, request, a.text);
-    put_numbered(buf, k, b"/stream=", a.stream)
+    put_stream(buf, k, a.stream)
 }
 
 // The lines of an answer's kind.
@@ -81,7 +85,7 @@ fn put_lines(buf: &mut [u8], at: usize, a: Answer, request: &[u8]) -> usize
         Kind::Options => put_options(buf, at, a),
         Kind::Setup => put_setup(buf, at, a),
         Kind::Play => put_play(buf, at, a, request),
-        Kind::Teardown => put_session(buf, at, a.session, b"\r\n"),
+        Kind::Teardown => put_session_line(buf, at, a.session),
     }
 }
 
@@ -90,10 +94,8 @@ pub fn write(buf: &mut [u8], a: Answer, request: &[u8]) -> usize
     ensures { λ r. ⌜ Wrote (now (buf .entry)) 0 (answerText (now (request .entry)) a) (now (buf .exit)) r ⌝ }
 {
     let cseq = a.cseq;
-    let n = writing::put(buf, 0, b"RTSP/1.0 ");
-    let m = writing::put_decimal(buf, n, a.status);
-    let l = put_reason_line(buf, m, a.status);
-    let j = put_cseq(buf, l, cseq);
-    let k = put_lines(buf, j, a, request);
+    let n = put_status(buf, 0, a.status);
+    let m = put_cseq(buf, n, cseq);
+    let k = put_lines(buf, m, a, request);
     writing::put(buf, k, b"\r\n")
 }

@@ -6,12 +6,22 @@ use Rattle.answer.proofs.put_setup.Tie as tie
 
 returns : tie.Need-returns
 returns c =
-    let c3 = c .before .before in
-    let c2 = c3 .before .before .before .before .before in
-    let c1 = c2 .before .before .before .before in
-    c1 .put-session .ensures
-    then c2 .put-transport .ensures
-    then c3 .put-numbered .ensures
+    let c4 = c .before .before in
+    let c3 = c4 .before .before .before .before in
+    let c2 = c3 .before .before .before .before in
+    let c1 = c2 .before .before .before .before .before in
+    (c1 .put-session .ensures then c2 .put .ensures)
+    then c3 .put-transport .ensures
+    then c4 .put-stream-id .ensures
 
 pub put-setup-spec : {M : Type 1} → statement M
-put-setup-spec = tie.close (tie.spec (λ c. search needs) (λ c κs. search needs) (λ c κs. search needs) (λ c. search needs) (λ c κs. search needs) (λ c. search needs) returns)
+put-setup-spec =
+    tie.close
+    (tie.spec
+    (λ c κs. search needs)
+    (λ c. search needs)
+    (λ c κs. search needs)
+    (λ c κs. search needs)
+    (λ c κs. search needs)
+    (λ c. search needs)
+    returns)

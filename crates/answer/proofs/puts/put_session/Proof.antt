@@ -5,13 +5,8 @@ use Rattle.answer.proofs.puts.put_session.Statement.{statement}
 use Rattle.answer.proofs.puts.put_session.Tie as tie
 
 returns : tie.Need-returns
-returns c =
-    let c3 = c .before .before in
-    let c2 = c3 .before .before .before .before in
-    let c1 = c2 .before .before .before .before in
-    c1 .put .ensures
-    then c2 .put-hex .ensures
-    then c3 .put2 .ensures
+returns c = search _then_
 
 pub put-session-spec : {M : Type 1} → statement M
-put-session-spec = tie.close (tie.spec (λ c. search needs) (λ c κs. search needs) (λ c κs. search needs) (λ c κs. search needs) (λ c. search needs) returns)
+put-session-spec =
+    tie.close (tie.spec (λ c. search needs) (λ c κs. search needs) (λ c κs. search needs) (λ c. search needs) returns)
