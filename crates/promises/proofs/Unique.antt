@@ -69,6 +69,12 @@ scan-first-in κs a x y v w p q = same (p .is) (q .is)
 pub scan-first-from : Unique scan.first_from.ended scan.first_from.Reads.Post
 scan-first-from κs a x y v w p q = same (p .is) (q .is)
 
+pub scan-text-end : Unique scan.text_end.ended scan.text_end.Reads.Post
+scan-text-end κs a x y v w p q = same (p .is) (q .is)
+
+pub scan-first-far : Unique scan.first_far.ended scan.first_far.Reads.Post
+scan-first-far κs a x y v w p q = same (p .is) (q .is)
+
 pub scan-all-in : Unique scan.all_in.ended scan.all_in.Reads.Post
 scan-all-in κs a x y v w = same
 
@@ -122,9 +128,9 @@ journal-put κs a x y v w = wrote
 -- LINES
 pub lines-read-lines : UniqueHeld lines.read_lines.ended lines.read_lines.Reads.Post
 lines-read-lines κs a x y v w m n i j p q =
-    let e : length (x .headers) ≡ 6 = search (known, i) in
-    let f : length (y .headers) ≡ 6 = search (known, j) in
-    (lines-same (a .0 .now) x y p q (e ∙ sym f), refl)
+    let e : length (x .headers) ≡ 5 = search (known, i) in
+    let f : length (y .headers) ≡ 5 = search (known, j) in
+    (lines-same (a .0 .now) x y p q e f, refl)
 
 -- TUNING
 pub tuning-attribute-of : Unique tuning.attribute_of.ended tuning.attribute_of.Reads.Post

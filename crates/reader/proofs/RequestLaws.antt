@@ -116,7 +116,7 @@ module _ (s : List ℕ) {l : Lines} (i : LinesAre s l) where
 
     pub cseq-read : {c : Read} → c ≡ cseqAt s (getD (l .headers) 0 unseen) → c ≡ cseqOf s
     unfolding cseqOf
-    cseq-read e = e ∙ seen-cseq (i .headers y 0) ∙ rw laid
+    cseq-read e = e ∙ seen-cseq (i .headers y 0 (omega arith)) ∙ rw laid
 
     pub request-uncounted : {c : Read} → c ≡ cseqOf s → isValue c ≡ false → headRefusal s ≡ CSeq
     unfolding headRefusal
@@ -253,13 +253,13 @@ module _ (frontends : ℕ) (s : List ℕ) {l : Lines} {c : Read} {p : Parts} (h 
           host-starts = own .host-starts z;
           query-starts = own .query-starts z;
           starts = own .starts z;
-          session = h .begun .lines .headers (h .begun .whole) 1;
-          transport = h .begun .lines .headers (h .begun .whole) 2;
+          session = h .begun .lines .headers (h .begun .whole) 1 (omega arith);
+          transport = h .begun .lines .headers (h .begun .whole) 2 (omega arith);
         }
 
 -- FROM THE LINES ON
 module _ (s : List ℕ) {l : Lines} {c : Read} (b : Begun s l c) where
-  seen-of : (k : ℕ) → SeenIs s (valuesOf k (headerLines s)) (getD (l .headers) k unseen)
+  seen-of : (k : ℕ) → k < 5 → SeenIs s (valuesOf k (headerLines s)) (getD (l .headers) k unseen)
   seen-of = b .lines .headers (b .whole)
 
   pub line-within : l .line ≤ length s
@@ -281,7 +281,8 @@ module _ (s : List ℕ) {l : Lines} {c : Read} (b : Begun s l c) where
 
     module _ (y : p .sound ≡ true) {t : Bool} (w : t ≡ areTwice (l .headers)) where
       twice-is : areRepeated s ≡ t
-      twice-is = sym (w ∙ rw (seen-twice (seen-of 1), seen-twice (seen-of 2), seen-twice (seen-of 3), seen-twice (seen-of 4)))
+      twice-is = sym (w ∙ rw (seen-twice (seen-of 1 (omega arith)), seen-twice (seen-of 2 (omega arith)), seen-twice (seen-of 3 (omega arith)), seen-twice (seen-of 4 (omega arith))))
+
 
       pub request-twice : t ≡ true → headRefusal s ≡ HeaderTwice
       unfolding headRefusal
@@ -298,12 +299,12 @@ module _ (s : List ℕ) {l : Lines} {c : Read} (b : Begun s l c) where
         module _ (a : v ≡ true) where
           required-is : 0 < getD (l .headers) 3 unseen .times → headRefusal s ≡ Require
           unfolding headRefusal
-          required-is h = rw (begun-is, b .some, three-is ∙ y, twice-is ∙ n, version-is ∙ a, sym (seen-sent (seen-of 3)) ∙ lt-ltb 0 (getD (l .headers) 3 unseen .times) h)
+          required-is h = rw (begun-is, b .some, three-is ∙ y, twice-is ∙ n, version-is ∙ a, sym (seen-sent (seen-of 3 (omega arith))) ∙ lt-ltb 0 (getD (l .headers) 3 unseen .times) h)
 
           pub request-required : {frontends : ℕ} {r : Request} → 0 < getD (l .headers) 3 unseen .times
               → r ≡ refusedRequest Require c (record { start = getD (l .headers) 3 unseen .start; end = getD (l .headers) 3 unseen .end }) → RequestIs frontends s r
           unfolding requestRefusal
-          request-required h q = request-refused refl (λ _. (seen-of 3 .value, b .lines .starts (b .whole) 3)) (λ n. absurd (n (required-is h))) (rw (required-is h)) (b .cseq-is) q
+          request-required h q = request-refused refl (λ _. (seen-of 3 (omega arith) .value, b .lines .starts (b .whole) 3 (omega arith))) (λ n. absurd (n (required-is h))) (rw (required-is h)) (b .cseq-is) q
 
           pub request-headed : getD (l .headers) 3 unseen .times ≤ 0 → Headed s l c p
           request-headed h =
@@ -315,7 +316,7 @@ module _ (s : List ℕ) {l : Lines} {c : Read} (b : Begun s l c) where
                 three = y;
                 once = twice-is ∙ n;
                 version = version-is ∙ a;
-                free = sym (seen-sent (seen-of 3)) ∙ le-ltb 0 (getD (l .headers) 3 unseen .times) h;
+                free = sym (seen-sent (seen-of 3 (omega arith))) ∙ le-ltb 0 (getD (l .headers) 3 unseen .times) h;
                 line-in = line-within;
                 first-in = omega (arith, m .order);
                 second-in = omega (arith, m .within);

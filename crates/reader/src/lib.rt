@@ -78,7 +78,7 @@ fn session_at(s: &[u8], seen: Seen) -> Session
     fields::session_in(&s[start..end])
 }
 
-fn are_twice(headers: [Seen; 6]) -> bool
+fn are_twice(headers: [Seen; 5]) -> bool
     ensures { λ r. ⌜ r ≡ areTwice headers ⌝ }
 {
     (1 < headers[1].times)

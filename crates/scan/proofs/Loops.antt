@@ -12,7 +12,7 @@ use lib.Seq.{drop-cons, drop-drop}
 use borrow.Author.Tests.{not-false}
 use Rattle.scan.specs.Lists.{all, first, part}
 use Rattle.scan.specs.Found.{FirstOf, FirstFrom}
-use Rattle.scan.proofs.Bools.{and-and, and-both}
+use Rattle.scan.proofs.Bools.{and-and, and-both, by-test}
 use Rattle.scan.proofs.Parts.{part-rest}
 
 -- what any function says of the rest at i: it goes by the element at i and the rest at i + 1, and there is nothing at the end
@@ -86,27 +86,24 @@ module _ {A : Type 0} (p : A → Bool) where
   pub telling-end : {l : List A} {i : ℕ} {t : Bool} → Telling l t i → length l ≤ i → t ≡ all p l
   telling-end {l} {i} {t} s h = sym (and-true t) ∙ sym (ap (λ b. t && b) (end (all p) l i h)) ∙ s .same
 
--- a block of which every element passes holds none that does not: what is sought is past it
-module _ {A : Type 0} (q : A → Bool) where
-  abbrev fails : A → Bool
-  fails x = not (q x)
-
-  first-after : (n : ℕ) (l : List A) → n ≤ length l → all q (take n l) ≡ true → first fails l ≡ n + first fails (drop n l)
+-- a block of which every element passes a test that nothing sought passes holds nothing sought: that is past it
+module _ {A : Type 0} (p q : A → Bool) (other : (x : A) → q x ≡ true → p x ≡ false) where
+  first-after : (n : ℕ) (l : List A) → n ≤ length l → all q (take n l) ≡ true → first p l ≡ n + first p (drop n l)
   first-after zero l h e = omega arith
   first-after (suc n) [] h e = absurd (omega arith)
   first-after (suc n) (x ∷ l) h e =
       let b = and-both (q x) (all q (take n l)) e in
       let r = first-after n l (omega arith) (b .1) in
-      let z : first fails (x ∷ l) ≡ suc (first fails l) = rw (b .0) in
+      let z : first p (x ∷ l) ≡ suc (first p l) = rw (other x (b .0)) in
       omega (arith, z, r)
 
-  pub seeking-block : {l : List A} {i j : ℕ} {t : Bool} → Seeking fails l i → i ≤ j → j ≤ length l → t ≡ all q (part i j l) → not t ≡ false → Seeking fails l j
+  pub seeking-block : {l : List A} {i j : ℕ} {t : Bool} → Seeking p l i → i ≤ j → j ≤ length l → t ≡ all q (part i j l) → not t ≡ false → Seeking p l j
   seeking-block {l} {i} {j} {t} s h k e y =
       let n : length (drop i l) ≡ length l - i = length-drop i l in
       let r = first-after (j - i) (drop i l) (omega arith) (sym e ∙ not-false t y) in
       let m : i + (j - i) ≡ j = omega arith in
       let d : drop (j - i) (drop i l) ≡ drop j l = drop-drop (j - i) i l ∙ ap (λ k. drop k l) m in
-      let f : first fails (drop (j - i) (drop i l)) ≡ first fails (drop j l) = ap (first fails) d in
+      let f : first p (drop (j - i) (drop i l)) ≡ first p (drop j l) = ap (first p) d in
       record { inside = k; same = omega (arith, s .same, r, f) }
 
 -- what is found in the rest from `at` on, and past the end
@@ -123,6 +120,10 @@ module _ {A : Type 0} (p : A → Bool) (l : List A) (at : ℕ) where
       let q : k ≡ first p (drop at l) = f .is ∙ ap (first p) r in
       let w : k ≤ length (drop at l) = rw r at (f .within) in
       record { is = omega arith; from = omega arith; within = omega arith }
+
+  -- what is found from the start on
+  pub first-whole : {k : ℕ} → FirstOf p l k → FirstFrom p l 0 k
+  first-whole f = record { is = omega (arith, f .is); from = omega arith; within = omega (arith, f .within) }
 
   -- what is sought is found in the rest
   pub seeking-rest : {k : ℕ} → Seeking p l at → FirstOf p (part at (length l) l) k → FirstOf p l (at + k)
@@ -143,3 +144,25 @@ first-within p (x ∷ l) = step (p x) (first-within p l)
 pub first-same : {A : Type 0} (p q : A → Bool) → ((x : A) → p x ≡ q x) → (l : List A) → first p l ≡ first q l
 first-same p q e [] = refl
 first-same p q e (x ∷ l) = ap₂ (λ t n. cond t 0 (suc n)) (e x) (first-same p q e l)
+
+-- what is found passes; what is found in a front part is found in the whole, and the other way round where the part reaches so far
+module _ {A : Type 0} (p : A → Bool) where
+  pub first-passes : (l : List A) (d : A) → first p l < length l → p (getD l (first p l) d) ≡ true
+  first-passes [] d h = absurd (omega arith)
+  first-passes (x ∷ l) d h =
+      by-test (λ t. p x ≡ t → cond t 0 (suc (first p l)) < suc (length l) → p (getD (x ∷ l) (cond t 0 (suc (first p l))) d) ≡ true) (p x) (λ _ y k. y)
+      (λ _ y k. first-passes l d (omega arith)) refl h
+
+  pub first-front : (n : ℕ) (l : List A) → first p (take n l) < length (take n l) → first p (take n l) ≡ first p l
+  first-front zero l h = absurd (omega arith)
+  first-front (suc n) [] h = refl
+  first-front (suc n) (x ∷ l) h =
+      by-test (λ t. cond t 0 (suc (first p (take n l))) < suc (length (take n l)) → cond t 0 (suc (first p (take n l))) ≡ cond t 0 (suc (first p l))) (p x) (λ _ _. refl)
+      (λ _ k. ap suc (first-front n l (omega arith))) h
+
+  pub first-kept : (n : ℕ) (l : List A) → first p l < n → first p (take n l) ≡ first p l
+  first-kept zero l h = absurd (omega arith)
+  first-kept (suc n) [] h = refl
+  first-kept (suc n) (x ∷ l) h =
+      by-test (λ t. cond t 0 (suc (first p l)) < suc n → cond t 0 (suc (first p (take n l))) ≡ cond t 0 (suc (first p l))) (p x) (λ _ _. refl)
+      (λ _ k. ap suc (first-kept n l (omega arith))) h

@@ -1,19 +1,22 @@
 -- Parts of a list: their length, a part of a part, and what a span of a part holds in the whole. Assumes nothing.
 use mathlib.Core.Path.{_≡_, refl, ap, _∙_, sym}
-use mathlib.Core.Bool.{false, _&&_}
+use mathlib.Core.Bool.{true, false, cond, not, _&&_}
 use mathlib.Core.List.{List, [], _∷_, _++_}
 use Prim.Native.Nat.{ℕ, zero, suc, _+_, _-_, _≤_, _<_}
 use native.Mathlib.Nat.{suc-sub-suc, sub-zero, zero-sub}
 use native.Mathlib.Omega.{arith}
 use lib.ListN.{length, getD, take, drop, replicate, length-take, length-drop}
 use lib.Seq.{take-take, drop-drop, take-nil, take-all, take-suc, getD-drop}
-use Rattle.scan.specs.Lists.{part, all, isName, areNameBytes}
-use Rattle.scan.specs.Found.{Holds, FirstOf}
+use Rattle.scan.specs.Lists.{part, all, first, isName, areNameBytes}
+use Rattle.scan.specs.Found.{Holds, FirstOf, inClass}
+use Rattle.scan.specs.declared.Class.the-variants.{NotName}
 use Rattle.scan.specs.Text.{isEmpty, is, before}
-use lib.Dec.{ltb}
+use lib.Dec.{ltb, eqb}
+use borrow.Author.Tests.{eq-eqb, ne-eqb}
+use Rattle.scan.proofs.Bools.{never, by-test}
 
 module _ {A : Type 0} where
-  drop-take : (i n : ℕ) (l : List A) → drop i (take n l) ≡ take (n - i) (drop i l)
+  pub drop-take : (i n : ℕ) (l : List A) → drop i (take n l) ≡ take (n - i) (drop i l)
   drop-take zero n l = rw sub-zero
   drop-take (suc i) zero [] = sym (take-nil (0 - suc i))
   drop-take (suc i) zero (x ∷ l) = rw zero-sub
@@ -92,3 +95,38 @@ pub named-by : (b : ℕ) {k : ℕ} (xs : List ℕ) → FirstOf (is b) xs k → a
 named-by b {k} xs f =
     let n : length (part 0 k xs) ≡ k = part-length 0 k xs (f .within) ∙ sub-zero k in
     ap (λ j. areNameBytes (part 0 j xs)) (sym (f .is)) ∙ ap (λ j. ltb 0 j && all isName (part 0 k xs)) n
+
+-- a name, by the place of the first byte that is none of a name's: a byte b that is none ends it there, or the text does, or else it is no name
+module _ (b : ℕ) (out : isName b ≡ false) where
+  abbrev stop : List ℕ → ℕ
+  stop xs = first (inClass NotName) xs
+
+  apart : (x : ℕ) → isName x ≡ true → eqb x b ≡ false
+  apart x y = ne-eqb x b (λ e. never y (ap isName e ∙ out))
+
+  names : (xs : List ℕ) → all isName (take (stop xs) xs) ≡ true
+  names [] = refl
+  names (x ∷ xs) = by-test (λ t. all isName (take (cond (not t) 0 (suc (stop xs))) (x ∷ xs)) ≡ true) (isName x) (λ y. rw y (names xs)) (λ _. refl)
+
+  ends : (xs : List ℕ) → (stop xs < length xs → getD xs (stop xs) 0 ≡ b) → first (is b) xs ≡ stop xs
+  ends [] p = refl
+  ends (x ∷ xs) p =
+      by-test (λ t. (cond (not t) 0 (suc (stop xs)) < suc (length xs) → getD (x ∷ xs) (cond (not t) 0 (suc (stop xs))) 0 ≡ b) → first (is b) (x ∷ xs) ≡ cond (not t) 0 (suc (stop xs)))
+      (isName x) (λ y q. rw (apart x y) (ap suc (ends xs (λ h. q (omega arith))))) (λ _ q. rw (eq-eqb x b (q (omega arith)))) p
+
+  others : (xs : List ℕ) → stop xs < length xs → (getD xs (stop xs) 0 ≡ b → ⊥) → all isName (take (first (is b) xs) xs) ≡ false
+  others [] h n = absurd (omega arith)
+  others (x ∷ xs) h n =
+      by-test
+      (λ t. isName x ≡ t → cond (not t) 0 (suc (stop xs)) < suc (length xs) → (getD (x ∷ xs) (cond (not t) 0 (suc (stop xs))) 0 ≡ b → ⊥) → all isName (take (first (is b) (x ∷ xs)) (x ∷ xs)) ≡ false)
+      (isName x) (λ _ y k m. rw (apart x y, y) (others xs (omega arith) m)) (λ _ y k m. rw (ne-eqb x b m, y)) refl h n
+
+  module _ {xs : List ℕ} {k : ℕ} (f : FirstOf (inClass NotName) xs k) where
+    pub name-ends : (k < length xs → getD xs k 0 ≡ b) → FirstOf (is b) xs k
+    name-ends p = record { is = f .is ∙ sym (ends xs (rw (f .is) at p)); within = f .within }
+
+    pub name-whole : true ≡ all isName (part 0 k xs)
+    name-whole = sym (rw (sub-zero k, f .is) (names xs))
+
+    pub name-not : k < length xs → (getD xs k 0 ≡ b → ⊥) → all isName (before b xs) ≡ false
+    name-not h n = rw (sub-zero (first (is b) xs)) (others xs (rw (f .is) at h) (rw (f .is) at n))

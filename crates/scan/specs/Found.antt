@@ -1,16 +1,16 @@
 -- What the functions of this crate promise the crates above: where in a text something stands. No call of the box reaches it. Assumes nothing.
-use Prim.Native.Nat.{ℕ, _+_, _≤_, max}
+use Prim.Native.Nat.{ℕ, _+_, _-_, _≤_, max}
 use mathlib.Core.Bool.{Bool, cond, not}
 use mathlib.Core.Path.{_≡_}
 use mathlib.Core.List.{List, [], _∷_, _++_}
 use lib.ListN.{length, drop}
-use Rattle.scan.specs.Lists.{first, part, isDigit, isCapital, isName, isText}
+use Rattle.scan.specs.Lists.{first, part, isDigit, isCapital, isName, isText, isBetween}
 use Rattle.scan.specs.declared.Span.{Span}
 use Rattle.scan.specs.Text.{trim, areAlike, cut}
 use Rattle.scan.specs.declared.Case.{Case}
 use lib.Dec.{leb, eqb}
 use Rattle.scan.specs.declared.Class.{Class}
-use Rattle.scan.specs.declared.Class.the-variants.{Is, Not, Digit, Name, Text, NotText}
+use Rattle.scan.specs.declared.Class.the-variants.{Is, Not, Digit, Name, NotName, Text, NotText}
 
 module _ {A : Type 0} (p : A → Bool) where
   -- r is the place of the first element that passes
@@ -46,6 +46,13 @@ isWord case s word = areAlike case word s
 abbrev pub small : ℕ → ℕ
 small b = cond (isCapital b) (b + 32) b
 
+-- a to z; a letter in its other case, and any other byte itself
+abbrev pub isSmall : ℕ → Bool
+isSmall b = isBetween 97 122 b
+
+abbrev pub otherCase : ℕ → ℕ
+otherCase b = cond (isCapital b) (b + 32) (cond (isSmall b) (b - 32) b)
+
 -- the pieces from place p on, where a piece starts; none where p is past the end
 abbrev pub cutFrom : ℕ → ℕ → List ℕ → List (List ℕ)
 cutFrom b p s = cond (leb p (length s)) (cut b (drop p s)) []
@@ -61,6 +68,7 @@ inClass (Is x) b = eqb b x
 inClass (Not x) b = not (eqb b x)
 inClass Digit b = isDigit b
 inClass Name b = isName b
+inClass NotName b = not (isName b)
 inClass Text b = isText b
 inClass NotText b = not (isText b)
 

@@ -3,7 +3,7 @@
 ghost use mathlib.Core.Path.{_≡_};
 ghost use lib.Dec.{eqb};
 ghost use Rattle.scan.specs.Lists.{all, isDigit, isCapital, isName, isText};
-ghost use Rattle.scan.specs.Found.{FirstOf, FirstFrom, Trimmed, inClass};
+ghost use Rattle.scan.specs.Found.{FirstOf, FirstFrom, Trimmed, inClass, isSmall, otherCase};
 ghost use Rattle.scan.specs.Text.{seen, areAlike};
 
 // A class of bytes, handed to a scan.
@@ -16,6 +16,8 @@ pub enum Class {
     Digit,
     // Letters, digits, hyphen, dot.
     Name,
+    // Any other.
+    NotName,
     // 32 to 126.
     Text,
     // Any other.
@@ -32,6 +34,12 @@ fn is_capital(b: u8) -> bool
     ensures { λ r. ⌜ r ≡ isCapital b ⌝ }
 {
     (b'A' <= b) & (b <= b'Z')
+}
+
+fn is_small(b: u8) -> bool
+    ensures { λ r. ⌜ r ≡ isSmall b ⌝ }
+{
+    (b'a' <= b) & (b <= b'z')
 }
 
 fn is_name(b: u8) -> bool
@@ -59,6 +67,7 @@ fn in_class(c: Class, b: u8) -> bool
         Class::Not(x) => !(b == x),
         Class::Digit => is_digit(b),
         Class::Name => is_name(b),
+        Class::NotName => !is_name(b),
         Class::Text => is_text(b),
         Class::NotText => !is_text(b),
     }
@@ -116,19 +125,54 @@ fn are_text(s: &[u8]) -> bool
     text
 }
 
-// The place of the first byte that is not text. Whole blocks of sixteen bytes of text are passed over.
-fn first_not_text(s: &[u8]) -> usize
+// The place of the first byte that is not text, or the length. Blocks of sixteen bytes of text are passed over; in the block that holds
+// another byte its place is sought without looking for the end.
+pub fn text_end(s: &[u8]) -> usize
     ensures { λ r. ⌜ FirstOf (inClass Class.NotText) (now (s .entry)) r ⌝ }
 {
     let mut at = 0;
     while 16 <= s.len() - at {
         let end = at + 16;
         if !are_text(&s[at..end]) {
-            break;
+            let mut k = 0;
+            while k < 16 {
+                if in_class(Class::NotText, s[at + k]) {
+                    return at + k;
+                }
+                k += 1;
+            }
         }
         at = end;
     }
     at + first_among(&s[at..], Class::NotText)
+}
+
+// Whether no byte is x.
+fn are_other(s: &[u8], x: u8) -> bool
+    ensures { λ r. ⌜ r ≡ all (inClass (Class.Not x)) (now (s .entry)) ⌝ }
+{
+    let mut other = true;
+    let mut i = 0;
+    while i < s.len() {
+        other = other & (s[i] != x);
+        i += 1;
+    }
+    other
+}
+
+// The place of the first byte that is x, or the length, where it is likely to be far: blocks of sixteen other bytes are passed over.
+pub fn first_far(s: &[u8], x: u8) -> usize
+    ensures { λ r. ⌜ FirstOf (inClass (Class.Is x)) (now (s .entry)) r ⌝ }
+{
+    let mut at = 0;
+    while 16 <= s.len() - at {
+        let past = at + 16;
+        if !are_other(&s[at..past], x) {
+            break;
+        }
+        at = past;
+    }
+    at + first_is(&s[at..], x)
 }
 
 // The place of the first byte of the class, or the length.
@@ -137,7 +181,6 @@ pub fn first_in(s: &[u8], c: Class) -> usize
 {
     match c {
         Class::Is(x) => first_is(s, x),
-        Class::NotText => first_not_text(s),
         _ => first_among(s, c),
     }
 }
@@ -173,43 +216,43 @@ pub enum Case {
     Ignored,
 }
 
-fn small_of(b: u8) -> u8
-    ensures { λ r. ⌜ r ≡ seen Case.Ignored b ⌝ }
+// A letter in its other case, and any other byte itself.
+fn other_case(b: u8) -> u8
+    ensures { λ r. ⌜ r ≡ otherCase b ⌝ }
 {
-    if is_capital(b) { b + 32 } else { b }
-}
-
-fn seen_as(case: Case, b: u8) -> u8
-    ensures { λ r. ⌜ r ≡ seen case b ⌝ }
-{
-    match case {
-        Case::Counts => b,
-        Case::Ignored => small_of(b),
+    if is_capital(b) {
+        return b + 32;
     }
+    if is_small(b) {
+        return b - 32;
+    }
+    b
 }
 
+// Of two bytes whose case is ignored, the first is compared in both its cases: where it is known, that is one comparison.
 fn is_pair_alike(case: Case, x: u8, y: u8) -> bool
     ensures { λ r. ⌜ r ≡ eqb (seen case x) (seen case y) ⌝ }
 {
-    seen_as(case, x) == seen_as(case, y)
+    match case {
+        Case::Counts => x == y,
+        Case::Ignored => (x == y) | (other_case(x) == y),
+    }
 }
 
-// Whether two texts are the same bytes, or the same but for the case of letters.
+// Whether two texts are the same bytes, or the same but for the case of letters. There is no early way out: a known word is compared at once.
 pub fn are_alike(s: &[u8], t: &[u8], case: Case) -> bool
     ensures { λ r. ⌜ r ≡ areAlike case (now (s .entry)) (now (t .entry)) ⌝ }
 {
     if s.len() != t.len() {
         return false;
     }
+    let mut alike = true;
     let mut at = 0;
     while at < s.len() {
-        if is_pair_alike(case, s[at], t[at]) {
-            at += 1;
-        } else {
-            return false;
-        }
+        alike = alike & is_pair_alike(case, s[at], t[at]);
+        at += 1;
     }
-    true
+    alike
 }
 
 // A part of a slice, from start up to, not including, end.

@@ -1,6 +1,6 @@
 // What a request is aimed at: the three parts of its request line, and its URI's form, stream, host and query. Every function has an
-// answer for all bytes. A request line's bytes are looked at once each; a URI's at most four times each (those of its host: for `?`, for
-// `/`, for `:` and by their class), and those of its query never. No byte is copied.
+// answer for all bytes. A request line's bytes are looked at once each (those of the sixteen in which the second space stands twice); a
+// URI's at most twice each (those of its host for `/` and by their class), and those of its query never. No byte is copied.
 ghost use mathlib.Core.Path.{_≡_};
 ghost use Rattle.target.specs.Steps.{PartsAre, noParts, noUri, isPortNumber, hostEnd, UriIs};
 ghost use Rattle.target.specs.Uri.{startsWith, streamOfPath};
@@ -47,7 +47,8 @@ pub fn request_line(line: &[u8]) -> Parts
     if line.len() <= first {
         return no_parts();
     }
-    let second = scan::first_from(line, first + 1, Class::Is(b' '));
+    let next = first + 1;
+    let second = next + scan::first_far(&line[next..], b' ');
     if line.len() <= second {
         return no_parts();
     }
@@ -55,7 +56,7 @@ pub fn request_line(line: &[u8]) -> Parts
     if scan::first_from(line, third, Class::Is(b' ')) < line.len() {
         return no_parts();
     }
-    if (first == 0) | (second == first + 1) | (line.len() == third) {
+    if (first == 0) | (second == next) | (line.len() == third) {
         return no_parts();
     }
     Parts {
@@ -87,12 +88,12 @@ fn is_port(s: &[u8]) -> bool
 fn host_end(a: &[u8]) -> usize
     ensures { λ r. ⌜ r ≡ hostEnd (now (a .entry)) ⌝ }
 {
-    let k = scan::first_in(a, Class::Is(b':'));
-    if !scan::all_in(&a[0..k], Class::Name) {
-        return 0;
-    }
+    let k = scan::first_in(a, Class::NotName);
     if k == a.len() {
         return k;
+    }
+    if a[k] != b':' {
+        return 0;
     }
     let port = k + 1;
     if is_port(&a[port..]) { k } else { 0 }
@@ -128,12 +129,10 @@ fn no_uri() -> Uri
 pub fn read_uri(s: &[u8]) -> Uri
     ensures { λ r. ⌜ UriIs (now (s .entry)) r ⌝ }
 {
-    let end = scan::first_in(s, Class::Is(b'?'));
-    let body = &s[0..end];
-    if !starts_with(b"rtsp://", body) {
+    if !starts_with(b"rtsp://", s) {
         return no_uri();
     }
-    let rest = &body[7..];
+    let rest = &s[7..];
     let slash = scan::first_in(rest, Class::Is(b'/'));
     if slash == rest.len() {
         return no_uri();
@@ -143,12 +142,14 @@ pub fn read_uri(s: &[u8]) -> Uri
         return no_uri();
     }
     let next = slash + 1;
-    let stream = stream_in(&rest[next..]);
+    let path = &rest[next..];
+    let mark = scan::first_in(path, Class::Is(b'?'));
+    let stream = stream_in(&path[0..mark]);
     match stream {
         Read::Value(n) => Uri {
             sound: true,
-            asked: end < s.len(),
-            query: end + 1,
+            asked: mark < path.len(),
+            query: 7 + next + mark + 1,
             stream: n,
             host: Span {
                 start: 7,

@@ -2,6 +2,7 @@
 use native.Mathlib.Omega.{arith}
 use borrow.Author.Needs.{needs}
 use borrow.Author.Tests.{not-true, not-false}
+use Rattle.scan.proofs.Loops.{first-whole}
 use Rattle.lines.proofs.LineLaws.{line-fits}
 use Rattle.lines.proofs.SeenLaws.{lines-long, lines-unended, lines-alone, lines-follow, lines-whole}
 use Rattle.lines.proofs.read_lines.Statement.{statement}
@@ -10,31 +11,31 @@ use Rattle.lines.proofs.read_lines.Tie as tie
 returns-2 : tie.Need-returns-2
 returns-2 c =
     let i = c .before .before in
-    lines-unended _ (omega arith) (i .before .first-from .ensures) (i .is-pair .ensures) (not-true _ (c .before .if2 .taken)) (c .broken2 .ensures)
+    lines-unended _ (omega arith) (first-whole _ _ 0 (i .before .text-end .ensures)) (i .is-pair .ensures) (not-true _ (c .before .if2 .taken)) (c .broken2 .ensures)
 
 returns-3 : tie.Need-returns-3
 returns-3 c =
     let n = c .before .before in
     let i = n .before in
-    lines-alone _ (omega arith) (i .before .first-from .ensures) (i .is-pair .ensures) (not-false _ (n .if2 .left)) (c .before .if3 .taken) (c .if4 .taken)
+    lines-alone _ (omega arith) (first-whole _ _ 0 (i .before .text-end .ensures)) (i .is-pair .ensures) (not-false _ (n .if2 .left)) (c .before .if3 .taken) (c .if4 .taken)
 
 returns-4 : tie.Need-returns-4
 returns-4 c =
     let n = c .before .before .before in
     let i = n .before in
-    lines-follow _ (omega arith) (i .before .first-from .ensures) (i .is-pair .ensures) (not-false _ (n .if2 .left)) (c .before .before .if3 .taken)
+    lines-follow _ (omega arith) (first-whole _ _ 0 (i .before .text-end .ensures)) (i .is-pair .ensures) (not-false _ (n .if2 .left)) (c .before .before .if3 .taken)
     (c .before .if4 .left) (c .broken3 .ensures)
 
 headers-after-requires : tie.Need-headers-after-requires
 headers-after-requires c κs =
     let i = c .before .before in
-    line-fits _ (i .before .first-from .ensures) (i .is-pair .ensures) (not-false _ (c .before .if2 .left))
+    line-fits _ (first-whole _ _ 0 (i .before .text-end .ensures)) (i .is-pair .ensures) (not-false _ (c .before .if2 .left))
 
 returns-5 : tie.Need-returns-5
 returns-5 c =
     let n = c .before .before in
     let i = n .before in
-    lines-whole _ (omega arith) (i .before .first-from .ensures) (i .is-pair .ensures) (not-false _ (n .if2 .left)) (c .before .if3 .left) (c .headers-after .ensures)
+    lines-whole _ (omega arith) (first-whole _ _ 0 (i .before .text-end .ensures)) (i .is-pair .ensures) (not-false _ (n .if2 .left)) (c .before .if3 .left) (c .headers-after .ensures)
 
 pub read-lines-spec : {M : Type 1} → statement M
 read-lines-spec =

@@ -17,7 +17,7 @@ returns c =
 cseq-in-requires : tie.Need-cseq-in-requires
 cseq-in-requires c κs =
     let i = c .before .before in
-    let h = i .before .before .read-lines .ensures .headers (not-false _ (i .if1 .left)) 0 .value in
+    let h = i .before .before .read-lines .ensures .headers (not-false _ (i .if1 .left)) 0 (omega arith) .value in
     (h .order, h .within)
 
 returns-2 : tie.Need-returns-2

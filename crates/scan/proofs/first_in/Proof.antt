@@ -9,9 +9,6 @@ first-in-spec =
     (tie.spec
     (λ c. search needs)
     (λ c κs. search needs)
-    (λ c. search needs)
-    (λ c κs. search needs)
     (λ c κs. search needs)
     (λ c. rw (c .before .before .c .given .1) (c .first-is .ensures))
-    (λ c. rw (c .before .enum-told .given .1) (c .first-not-text .ensures))
     (λ c. search needs))

@@ -1,23 +1,23 @@
--- `scan::first_not_text` meets its contract. Invariant: every byte before the place is text. Assumes nothing.
+-- `scan::first_far` meets its contract. Invariant: no byte before the place is x. Assumes nothing.
 use Prim.Native.Nat.{_-_}
 use native.Mathlib.Omega.{arith}
 use lib.ListN.{length}
 use borrow.Author.Needs.{needs}
-use Rattle.scan.specs.Lists.{isText}
+use borrow.Author.Tests.{not-true}
 use Rattle.scan.specs.Found.{inClass}
-use Rattle.scan.specs.declared.Class.the-variants.{NotText}
+use Rattle.scan.specs.declared.Class.the-variants.{Is, Not}
 use Rattle.scan.proofs.Loops.{Seeking, seeking-start, seeking-block, seeking-rest}
-use Rattle.scan.proofs.first_not_text.Statement.{statement}
-use Rattle.scan.proofs.first_not_text.Tie as tie
+use Rattle.scan.proofs.first_far.Statement.{statement}
+use Rattle.scan.proofs.first_far.Tie as tie
 
 abbrev Inv-loop : tie.InvT-loop
-Inv-loop s at₀ at = Seeking (inClass NotText) s at
+Inv-loop s x at₀ at = Seeking (inClass (Is x)) s at
 
 abbrev μ-loop : tie.MeasureT-loop
-μ-loop s at₀ at = length s - at
+μ-loop s x at₀ at = length s - at
 
-pub first-not-text-spec : {M : Type 1} → statement M
-first-not-text-spec =
+pub first-far-spec : {M : Type 1} → statement M
+first-far-spec =
     tie.close
     (tie.spec
     Inv-loop
@@ -30,7 +30,8 @@ first-not-text-spec =
     (λ c. search needs)
     (λ c κs. search needs)
     (λ c. search needs)
-    (λ c. seeking-block isText (c .before .before .before .before .loop .inv) (omega arith) (omega arith) (c .before .are-text .ensures) (c .if1 .left))
+    (λ c.
+    seeking-block _ _ (λ b. not-true _) (c .before .before .before .before .loop .inv) (omega arith) (omega arith) (c .before .are-other .ensures) (c .if1 .left))
     (λ c. search needs)
     (λ c. search needs)
     (λ c. search needs)
