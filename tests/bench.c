@@ -1,7 +1,8 @@
 /*
- * What a call costs: the instructions that the archive executes for it, and those of the plain box for the same call on the same table,
- * side by side in one run. Prints every case; with --bounds it counts only those that have a bound, and fails where the archive takes
- * more. It always fails where the two do not give the same.
+ * What a call costs: the instructions that the archive executes for it, those of the plain box for the same call on the same table, side by
+ * side in one run, and the ratio to what a plain box that was written for speed took elsewhere (gcc -O2, tables of the same kind), where that was
+ * measured. Prints every case; with --bounds it counts only those that have a bound, and fails where the archive takes more. It always fails
+ * where the two do not give the same.
  */
 #include "plain.h"
 #include "satbox.h"
@@ -21,7 +22,10 @@ struct side {
     size_t count;
 };
 
-/* A call to count: how its request is written and made this long, or no request for a tick; the sessions open; the archive's bound, or 0. */
+/*
+ * A call to count: how its request is written and made this long, or no request for a tick; the sessions open; the archive's bound, or 0; and what
+ * the plain box written for speed took, or 0.
+ */
 struct bench {
     const char *name;
     void (*write)(void);
@@ -29,6 +33,7 @@ struct bench {
     size_t length;
     uint32_t clock;
     unsigned long bound;
+    unsigned long fast;
 };
 
 static struct side start, archive, plain;
@@ -36,14 +41,15 @@ static char request[PLAIN_REQUEST_BYTES + 1];
 
 _Static_assert(sizeof(struct satbox) == sizeof(struct plain_box), "the same bytes are both");
 
-/* A table with this many sessions open: owners on up to seven frontends, and the rest joined to them in turn. */
+/* A table with this many sessions open: of up to eight two own a stream, of more four, and the rest joined these in turn. */
 static void open_sessions(unsigned sessions)
 {
+    const unsigned owners = sessions > 8 ? 4 : 2;
     memset(&start, 0, sizeof start);
     plain_make(&start.box, PLAIN_FRONTENDS, SIZE);
     for (unsigned i = 0; i < sessions; i++) {
         const unsigned port = 2000 + 2 * i;
-        if (i < PLAIN_FRONTENDS - 1)
+        if (i < owners)
             snprintf(request, sizeof request,
                      "SETUP rtsp://10.0.0.2/?src=1&freq=%u&pol=h&msys=dvbs&sr=27500&fec=34&pids=0,16,%u,%u,%u RTSP/1.0\r\nCSeq: 1\r\n"
                      "Transport: RTP/AVP;unicast;client_port=%u-%u\r\n\r\n",
@@ -51,7 +57,7 @@ static void open_sessions(unsigned sessions)
         else
             snprintf(request, sizeof request,
                      "SETUP rtsp://10.0.0.2/stream=%u RTSP/1.0\r\nCSeq: 1\r\nTransport: RTP/AVP;unicast;client_port=%u-%u\r\n\r\n",
-                     1 + i % (PLAIN_FRONTENDS - 1), port, port + 1);
+                     1 + i % owners, port, port + 1);
         plain_request(&start.box, (const uint8_t *)request, strlen(request), CLOCK, ADDRESS, 0x1000 + i, start.answer, sizeof start.answer,
                       &start.count, start.journal, sizeof start.journal);
     }
@@ -85,6 +91,22 @@ static void write_play(void)
     snprintf(request, sizeof request,
              "PLAY rtsp://10.0.0.2/stream=1?freq=11538&pol=v&sr=22000&fec=56&pids=0,17,44 RTSP/1.0\r\nCSeq: 3\r\nSession: %08X\r\n\r\n",
              first_session());
+}
+
+/* Who came last leaves: with eight sessions open it had joined. */
+static void write_teardown(void)
+{
+    unsigned last = 0;
+    while (last + 1 < PLAIN_SESSIONS && start.box.sessions[last + 1].number != 0)
+        last++;
+    snprintf(request, sizeof request, "TEARDOWN rtsp://10.0.0.2/stream=%u RTSP/1.0\r\nCSeq: 4\r\nSession: %08X\r\n\r\n",
+             (unsigned)start.box.sessions[last].stream, (unsigned)start.box.sessions[last].number);
+}
+
+/* The first owner leaves, and who had joined it with it. */
+static void write_closing(void)
+{
+    snprintf(request, sizeof request, "TEARDOWN rtsp://10.0.0.2/stream=1 RTSP/1.0\r\nCSeq: 4\r\nSession: %08X\r\n\r\n", first_session());
 }
 
 static void write_bad(void)
@@ -171,6 +193,8 @@ static bool count_case(const struct bench *b)
     const unsigned long a = count_archive(b), p = count_plain(b);
     printf("%-10s %.3s %8u %6zu %8lu %8lu %6.2f", b->name, b->write == NULL ? "   " : (const char *)archive.answer + 9, b->sessions,
            b->length, a, p, (double)a / (double)p);
+    if (b->fast != 0)
+        printf(" %8lu %6.2f", b->fast, (double)a / (double)b->fast);
     if (!are_alike())
         printf("  the archive and the plain box differ");
     if (b->bound != 0 && a > b->bound)
@@ -179,25 +203,35 @@ static bool count_case(const struct bench *b)
     return are_alike() && (b->bound == 0 || a <= b->bound);
 }
 
-#define REQUESTS(sessions, length, o, s, p, b) \
-    {"OPTIONS", write_options, sessions, length, CLOCK, o}, {"SETUP", write_setup, sessions, length, CLOCK, s}, \
-    {"PLAY", write_play, sessions, length, CLOCK, p}, {"bad", write_bad, sessions, length, CLOCK, b}
-
 /* A bound is some 90 above what was counted: one copy more of the box, which has the price of 103, is too many. */
 static const struct bench benches[] = {
-    REQUESTS(0, 150, 0, 0, 0, 0),
-    REQUESTS(0, 600, 0, 0, 0, 0),
-    REQUESTS(0, 2048, 0, 0, 0, 0),
-    REQUESTS(8, 150, 6305, 9398, 8055, 6942),
-    REQUESTS(8, 600, 8203, 0, 0, 0),
-    REQUESTS(8, 2048, 0, 0, 0, 0),
-    REQUESTS(32, 150, 0, 0, 0, 0),
-    REQUESTS(32, 600, 0, 0, 0, 0),
-    REQUESTS(32, 2048, 0, 0, 0, 0),
-    {"tick", NULL, 0, 0, CLOCK, 1920},
-    {"tick", NULL, 8, 0, CLOCK, 3690},
-    {"tick", NULL, 32, 0, CLOCK, 5670},
-    {"tick, all", NULL, 32, 0, CLOCK + PLAIN_TIMEOUT, 9980}
+    {"OPTIONS", write_options, 0, 150, CLOCK, 1, 2190},
+    {"OPTIONS", write_options, 8, 150, CLOCK, 1, 3263},
+    {"OPTIONS", write_options, 32, 150, CLOCK, 1, 6703},
+    {"SETUP", write_setup, 0, 150, CLOCK, 0, 4375},
+    {"SETUP", write_setup, 8, 150, CLOCK, 1, 5172},
+    {"SETUP", write_setup, 32, 150, CLOCK, 0, 0},
+    {"PLAY", write_play, 1, 150, CLOCK, 0, 3982},
+    {"PLAY", write_play, 8, 150, CLOCK, 1, 4489},
+    {"PLAY", write_play, 32, 150, CLOCK, 0, 7773},
+    {"TEARDOWN", write_teardown, 1, 150, CLOCK, 0, 3054},
+    {"TEARDOWN", write_teardown, 8, 150, CLOCK, 1, 3430},
+    {"TEARDOWN", write_teardown, 32, 150, CLOCK, 0, 6868},
+    {"T. of four", write_closing, 8, 150, CLOCK, 1, 0},
+    {"bad", write_bad, 0, 150, CLOCK, 0, 0},
+    {"bad", write_bad, 8, 150, CLOCK, 1, 0},
+    {"OPTIONS", write_options, 0, 600, CLOCK, 0, 4546},
+    {"OPTIONS", write_options, 8, 600, CLOCK, 1, 5614},
+    {"SETUP", write_setup, 8, 600, CLOCK, 0, 0},
+    {"PLAY", write_play, 8, 600, CLOCK, 0, 0},
+    {"OPTIONS", write_options, 0, 2048, CLOCK, 0, 12147},
+    {"OPTIONS", write_options, 8, 2048, CLOCK, 1, 13196},
+    {"SETUP", write_setup, 8, 2048, CLOCK, 0, 0},
+    {"PLAY", write_play, 8, 2048, CLOCK, 0, 0},
+    {"tick", NULL, 0, 0, CLOCK, 1, 999},
+    {"tick", NULL, 8, 0, CLOCK, 1, 1740},
+    {"tick", NULL, 32, 0, CLOCK, 1, 5024},
+    {"tick, all", NULL, 32, 0, CLOCK + PLAIN_TIMEOUT, 1, 8670}
 };
 
 int main(int count, char **words)
@@ -208,7 +242,7 @@ int main(int count, char **words)
         printf("bench: this machine hands on no trap after an instruction: nothing is counted\n");
         return 0;
     }
-    printf("%-14s %8s %6s %8s %8s %6s\n", "call", "sessions", "bytes", "archive", "plain", "ratio");
+    printf("%-14s %8s %6s %8s %8s %6s %8s %6s\n", "call", "sessions", "bytes", "archive", "plain", "ratio", "for speed", "ratio");
     for (size_t i = 0; i < sizeof benches / sizeof benches[0]; i++)
         if (!bounded || benches[i].bound != 0)
             good = count_case(&benches[i]) && good;
