@@ -1,8 +1,8 @@
 /*
  * What a call costs: the instructions that the archive executes for it, those of the plain box for the same call on the same table, side by
  * side in one run, and the ratio to what a plain box that was written for speed took elsewhere (gcc -O2, tables of the same kind), where that was
- * measured. Prints every case; with --bounds it counts only those that have a bound, and fails where the archive takes more. It always fails
- * where the two do not give the same.
+ * measured. Prints every case; with --bounds it counts only those that have a bound, and fails where the archive takes more; with --growth it
+ * counts how a call grows with its bytes, the sessions, the attributes and the PIDs. It always fails where the two do not give the same.
  */
 #include "plain.h"
 #include "satbox.h"
@@ -113,6 +113,26 @@ static void write_bad(void)
 {
     snprintf(request, sizeof request, "PLAY rtsp://10.0.0.2/stream=1?freq=11538&pol=v&pids=0,17,44,17,x RTSP/1.0\r\nCSeq: 3\r\n"
                                       "Session: %08X\r\n\r\n", first_session());
+}
+
+/* How many attributes or PIDs the next two ask for. */
+static unsigned asked;
+
+static void write_attributes(void)
+{
+    static const char *const attributes[] = {"src=1", "freq=11538", "pol=v", "msys=dvbs2", "mtype=8psk", "plts=on", "ro=0.35", "sr=22000", "fec=56", "pids=17"};
+    int at = snprintf(request, sizeof request, "PLAY rtsp://10.0.0.2/stream=1");
+    for (unsigned i = 0; i < asked; i++)
+        at += snprintf(request + at, sizeof request - (size_t)at, "%c%s", i == 0 ? '?' : '&', attributes[i]);
+    snprintf(request + at, sizeof request - (size_t)at, " RTSP/1.0\r\nCSeq: 3\r\nSession: %08X\r\n\r\n", first_session());
+}
+
+static void write_pids(void)
+{
+    int at = snprintf(request, sizeof request, "PLAY rtsp://10.0.0.2/stream=1?pids=");
+    for (unsigned i = 0; i < asked; i++)
+        at += snprintf(request + at, sizeof request - (size_t)at, "%s%u", i == 0 ? "" : ",", 100 + i);
+    snprintf(request + at, sizeof request - (size_t)at, " RTSP/1.0\r\nCSeq: 3\r\nSession: %08X\r\n\r\n", first_session());
 }
 
 /* Makes the request this long by headers that nobody knows, in lines of some 80 bytes before its empty line. False where it is longer. */
@@ -234,15 +254,46 @@ static const struct bench benches[] = {
     {"tick, all", NULL, 32, 0, CLOCK + PLAIN_TIMEOUT, 1, 8670}
 };
 
+/* Counts a request that asks for some attributes or PIDs, with two sessions open. */
+static bool count_asked(const char *name, void (*write)(void), unsigned many)
+{
+    struct bench b = {name, write, 2, 0, CLOCK, 0, 0};
+    asked = many;
+    open_sessions(b.sessions);
+    write();
+    b.length = strlen(request);
+    return count_case(&b);
+}
+
+static bool count_growth(void)
+{
+    bool good = true;
+    for (size_t length = 150; length <= 1950; length += 600) {
+        const struct bench b = {"bytes", write_options, 2, length, CLOCK, 0, 0};
+        good = count_case(&b) && good;
+    }
+    for (unsigned sessions = 0; sessions <= PLAIN_SESSIONS; sessions += 4) {
+        const struct bench b = {"sessions", NULL, sessions, 0, CLOCK, 0, 0};
+        good = count_case(&b) && good;
+    }
+    for (unsigned many = 0; many <= 10; many++)
+        good = count_asked("attributes", write_attributes, many) && good;
+    for (unsigned many = 1; many <= PLAIN_PIDS; many += many < 4 ? 3 : 7)
+        good = count_asked("PIDs", write_pids, many) && good;
+    return good;
+}
+
 int main(int count, char **words)
 {
-    const bool bounded = count > 1 && strcmp(words[1], "--bounds") == 0;
+    const bool bounded = count > 1 && strcmp(words[1], "--bounds") == 0, growth = count > 1 && strcmp(words[1], "--growth") == 0;
     bool good = true;
     if (!steps_prepare()) {
         printf("bench: this machine hands on no trap after an instruction: nothing is counted\n");
         return 0;
     }
     printf("%-14s %8s %6s %8s %8s %6s %8s %6s\n", "call", "sessions", "bytes", "archive", "plain", "ratio", "for speed", "ratio");
+    if (growth)
+        return count_growth() ? 0 : 1;
     for (size_t i = 0; i < sizeof benches / sizeof benches[0]; i++)
         if (!bounded || benches[i].bound != 0)
             good = count_case(&benches[i]) && good;
