@@ -45,9 +45,9 @@
 #define SATBOX_CLOCK_MAX 4294967295u    /* here time stands still: no session opened now ever expires */
 
 /* Bytes of stack that each call takes, with its arguments on it and its return address. docs/FIRMWARE.md says how that was measured. */
-#define SATBOX_STACK_REQUEST 6392u
-#define SATBOX_STACK_TICK 3496u
-#define SATBOX_STACK_ORDER 3528u
+#define SATBOX_STACK_REQUEST 6136u
+#define SATBOX_STACK_TICK 3480u
+#define SATBOX_STACK_ORDER 3512u
 #define SATBOX_STACK_COLLECT 3464u
 #define SATBOX_STACK_MAKE 1544u
 #define SATBOX_STACK_WRITE_RECORD 80u
