@@ -283,7 +283,6 @@ module _ (s : List ℕ) {l : Lines} {c : Read} (b : Begun s l c) where
       twice-is : areRepeated s ≡ t
       twice-is = sym (w ∙ rw (seen-twice (seen-of 1 (omega arith)), seen-twice (seen-of 2 (omega arith)), seen-twice (seen-of 3 (omega arith)), seen-twice (seen-of 4 (omega arith))))
 
-
       pub request-twice : t ≡ true → headRefusal s ≡ HeaderTwice
       unfolding headRefusal
       request-twice z = rw (begun-is, b .some, three-is ∙ y, twice-is ∙ z)
