@@ -1,1 +1,4 @@
+mod Vacant
+mod Seating
+mod Rows
 pub mod FormedLaws

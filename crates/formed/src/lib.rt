@@ -1,17 +1,21 @@
-// Whether a table is well formed: the rules of document 01 in one walk over the sessions and one over the streams. It runs on every call,
-// so that the table is handed on to nobody: a leaf looks at one place, or at numbers. The walk keeps the oldest last time beside, so that a
-// sweep need not look for sessions that have expired.
+// Whether a table is well formed: the rules of document 01 in one walk over the streams and one over the sessions, each handed the array that
+// it walks over. A leaf looks at one place, or at numbers. The walk over the sessions keeps the oldest last time beside, so that a sweep need
+// not look for sessions that have expired.
 ghost use mathlib.Core.Path.{_≡_};
-ghost use mathlib.Core.Bool.{true, false, cond, _&&_, _||_};
-ghost use Prim.Native.Nat.{_+_, _*_, _%_, _≤_, _<_, min};
+ghost use mathlib.Core.Bool.{true, false, not, cond, _&&_, _||_};
+ghost use mathlib.Core.List.{List, _∷_, map};
+ghost use Prim.Native.Nat.{ℕ, _+_, _*_, _%_, _≤_, _<_, min};
 ghost use lib.Dec.{eqb, leb};
-ghost use lib.ListN.{length, take, drop};
+ghost use lib.ListN.{length, getD, take, drop, replicate};
 ghost use Rattle.scan.specs.Lists.{isBetween, all};
 ghost use Rattle.stream.specs.Values.{isZero};
 ghost use Rattle.stream.specs.Streams.{isSound};
-ghost use Rattle.table.specs.Table.{isAmong, isFree, isDead};
-ghost use Rattle.table.specs.Formed.{isSeated, isBlank};
-ghost use Rattle.formed.specs.Standings.{standingOf, isWell, oldestIn};
+ghost use Rattle.stream.specs.declared.Stream.{Stream};
+ghost use Rattle.table.specs.Table.{count, areDistinct, isAmong, isFree, isOpen, owns};
+ghost use Rattle.table.specs.Formed.{areOwned, isSeated, isBlank};
+ghost use Rattle.table.specs.declared.Session.{Session};
+ghost use Rattle.formed.specs.Standings.{oldest, standingOf, isWell, oldestIn};
+ghost use Rattle.formed.specs.declared.Standing.the-variants.{Ill, Well};
 use stream::Stream;
 use table::SatBox;
 use table::Session;
@@ -45,31 +49,6 @@ fn is_seated(s: Session, clock: u32) -> bool
         & (s.owner <= 1)
         & (s.playing <= 1)
         & (s.last <= clock)
-}
-
-fn is_proper(s: Session, clock: u32) -> bool
-    ensures { λ r. ⌜ r ≡ cond (isFree s) (isBlank s) (isSeated clock s) ⌝ }
-{
-    if s.number == 0 {
-        return is_empty(s);
-    }
-    is_seated(s, clock)
-}
-
-fn is_id(id: usize) -> bool
-    ensures { λ r. ⌜ r ≡ isBetween 1 8 id ⌝ }
-{
-    (1 <= id) & (id <= SatBox::STREAMS)
-}
-
-// Whether a stream is sound and, where it is live, has one owner.
-fn is_placed(m: Stream, owners: u32, frontends: u16) -> bool
-    ensures { λ r. ⌜ r ≡ (isSound frontends m && (isDead m || eqb owners 1)) ⌝ }
-{
-    if !stream::is_sound(m, frontends) {
-        return false;
-    }
-    (m.frontend == 0) | (owners == 1)
 }
 
 // Whether the journal holds whole records and has room for the closing of each open session.
@@ -138,23 +117,88 @@ pub fn oldest_in(standing: Standing) -> u32
     }
 }
 
-// Looks at a whole table. The last places are passed over eight at a time as long as nobody is there. Of the open sessions so far it keeps their
-// numbers, how many own the stream of each ID (a seated session's owner is 0 or 1), how many they are, and the oldest last time. The stream at
-// place k has the ID k + 1.
-pub fn standing_of(t: SatBox) -> Standing
-    ensures { λ r. ⌜ r ≡ standingOf t ⌝ }
+// Whether an open session may stand behind those before it: it is seated, on a live stream, and none of them has its number.
+fn is_admitted(s: Session, clock: u32, feeds: &[u32], numbers: &[u32], opens: usize) -> bool
+    requires { ⌜ (length (now feeds) ≡ 9) × (length (now numbers) ≡ 32) × (eqb (s .number) 0 ≡ false) × (opens ≤ 32) × (all isZero (drop opens (now numbers)) ≡ true) ⌝ }
+    ensures { λ r. ⌜ r ≡ (isSeated clock s && (not (isZero (getD (now (feeds .entry)) (s .stream) 0)) && not (isAmong (s .number) (take opens (now (numbers .entry)))))) ⌝ }
+{
+    let id = s.stream as usize;
+    if SatBox::STREAMS < id {
+        return false;
+    }
+    if !is_seated(s, clock) {
+        return false;
+    }
+    (feeds[id] != 0) & !is_taken(numbers, opens, s.number)
+}
+
+// Whether each live stream has one owner. The frontend of each stream, and how many own it, stand at its ID.
+fn are_owned(feeds: &[u32], owners: &[u32]) -> bool
+    requires { ⌜ (length (now feeds) ≡ 9) × (length (now owners) ≡ 9) ⌝ }
+    ensures { λ r. ⌜ ((l : List Session) (ms : List Stream) → now (feeds .entry) ≡ 0 ∷ map (λ m. m .frontend) ms
+        → ((id : ℕ) → id < 9 → getD (now (owners .entry)) id 0 ≡ count (owns id) l) → r ≡ areOwned l 1 ms) ⌝ }
+{
+    let mut owned = true;
+    let mut id = 0;
+    while id < 9 {
+        owned = owned & ((feeds[id] == 0) | (owners[id] == 1));
+        id += 1;
+    }
+    owned
+}
+
+// Whether the streams are sound; their frontends are put at their IDs.
+fn are_sound(streams: [Stream; 8], frontends: u16, feeds: &mut [u32]) -> bool
+    requires { ⌜ now feeds ≡ replicate 9 0 ⌝ }
+    ensures { λ r. ⌜ (r ≡ all (isSound frontends) streams) × (r ≡ true → now (feeds .exit) ≡ 0 ∷ map (λ m. m .frontend) streams) ⌝ }
+{
+    let mut k = 0;
+    while k < SatBox::STREAMS {
+        let feed = streams[k].frontend;
+        feeds[k + 1] = wide(feed);
+        if feed == 0 {
+            if !stream::is_unused(streams[k]) {
+                return false;
+            }
+            k += 1;
+            continue;
+        }
+        if !stream::is_sound(streams[k], frontends) {
+            return false;
+        }
+        k += 1;
+    }
+    true
+}
+
+// Looks at the sessions, with the streams' frontends at their IDs, and puts how many own each stream at its ID. The last places are passed over
+// eight at a time as long as nobody is there. Of the open sessions so far it keeps their numbers, how many they are, and the oldest last time.
+fn seats_of(
+    sessions: [Session; 32],
+    clock: u32,
+    held: u32,
+    size: u32,
+    feeds: &[u32],
+    owners: &mut [u32],
+) -> Standing
+    requires { ⌜ (length (now feeds) ≡ 9) × (now owners ≡ replicate 9 0) ⌝ }
+    ensures { λ r. ⌜ (r ≡ cond (areDistinct (map (λ s. s .number) sessions)
+        && (all (λ s. isFree s || not (isZero (getD (now (feeds .entry)) (s .stream) 0))) sessions
+        && (all (λ s. cond (isFree s) (isBlank s) (isSeated clock s)) sessions
+        && (eqb (held % 16) 0 && leb (held + 16 * count isOpen sessions) size)))) (Well (oldest sessions)) Ill)
+        × (isWell r ≡ true → (id : ℕ) → id < 9 → getD (now (owners .exit)) id 0 ≡ count (owns id) sessions) ⌝ }
 {
     let mut end = SatBox::SESSIONS;
     while 8 <= end {
         let from = end - 8;
-        if t.sessions[from].number != 0 {
+        if sessions[from].number != 0 {
             break;
         }
         let mut vacant = true;
         let mut bytes = 0u64;
         let mut k = 0;
         while k < 8 {
-            let s = t.sessions[from + k];
+            let s = sessions[from + k];
             vacant = vacant & is_vacant(s);
             bytes += bytes_of(s);
             k += 1;
@@ -165,53 +209,56 @@ pub fn standing_of(t: SatBox) -> Standing
         end = from;
     }
     let mut numbers = [0u32; 32];
-    let mut owners = [0u32; 9];
     let mut opens = 0;
     let mut oldest = LATEST;
     let mut i = 0;
     while i < end {
-        let s = t.sessions[i];
+        let s = sessions[i];
         i += 1;
-        if !is_proper(s, t.clock) {
-            return Standing::Ill;
-        }
         if s.number == 0 {
+            if !is_empty(s) {
+                return Standing::Ill;
+            }
             continue;
         }
-        let id = s.stream as usize;
-        if !is_id(id) {
-            return Standing::Ill;
-        }
-        if (t.streams[id - 1].frontend == 0) | is_taken(&numbers, opens, s.number) {
+        if !is_admitted(s, clock, feeds, &numbers, opens) {
             return Standing::Ill;
         }
         numbers[opens] = s.number;
-        owners[id] += s.owner as u32;
+        owners[s.stream as usize] += s.owner as u32;
         opens += 1;
         oldest = earlier(oldest, s.last);
     }
-    let mut feeds = [0u32; 8];
-    let mut k = 0;
-    while k < SatBox::STREAMS {
-        let feed = t.streams[k].frontend;
-        feeds[k] = wide(feed);
-        if feed == 0 {
-            if !stream::is_unused(t.streams[k]) {
-                return Standing::Ill;
-            }
-            k += 1;
-            continue;
-        }
-        if !is_placed(t.streams[k], owners[k + 1], t.settings.frontends) {
-            return Standing::Ill;
-        }
-        k += 1;
+    if !is_fitting(held, size, opens) {
+        return Standing::Ill;
     }
-    if table::are_sizes(t.settings)
-        & table::are_distinct(&feeds)
-        & is_fitting(t.held, t.settings.size, opens)
-    {
-        return Standing::Well(oldest);
+    Standing::Well(oldest)
+}
+
+// Looks at a whole table. No stream has the ID 0.
+pub fn standing_of(t: SatBox) -> Standing
+    ensures { λ r. ⌜ r ≡ standingOf t ⌝ }
+{
+    let streams = t.streams;
+    let mut feeds = [0u32; 9];
+    if !are_sound(streams, t.settings.frontends, &mut feeds) {
+        return Standing::Ill;
+    }
+    let sessions = t.sessions;
+    let mut owners = [0u32; 9];
+    let standing = seats_of(
+        sessions,
+        t.clock,
+        t.held,
+        t.settings.size,
+        &feeds,
+        &mut owners,
+    );
+    if !is_well(standing) {
+        return Standing::Ill;
+    }
+    if table::are_sizes(t.settings) & table::are_distinct(&feeds) & are_owned(&feeds, &owners) {
+        return standing;
     }
     Standing::Ill
 }

@@ -1,7 +1,7 @@
 -- `formed::is_taken` meets its contract. Assumes nothing.
 use mathlib.Core.Path.{_∙_}
 use borrow.Author.Needs.{needs}
-use Rattle.formed.proofs.FormedLaws.{among-padded, among-split}
+use Rattle.formed.proofs.Seating.{among-padded, among-split}
 use Rattle.formed.proofs.is_taken.Statement.{statement}
 use Rattle.formed.proofs.is_taken.Tie as tie
 
