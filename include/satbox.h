@@ -46,9 +46,9 @@
 
 /* Bytes of stack that each call takes, with its arguments on it and its return address. docs/FIRMWARE.md says how that was measured. */
 #define SATBOX_STACK_REQUEST 6136u
-#define SATBOX_STACK_TICK 3480u
-#define SATBOX_STACK_ORDER 3512u
-#define SATBOX_STACK_COLLECT 3464u
+#define SATBOX_STACK_TICK 2728u
+#define SATBOX_STACK_ORDER 2760u
+#define SATBOX_STACK_COLLECT 2712u
 #define SATBOX_STACK_MAKE 1544u
 #define SATBOX_STACK_WRITE_RECORD 80u
 #define SATBOX_STACK_READ_RECORD 56u
