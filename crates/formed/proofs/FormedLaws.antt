@@ -2,16 +2,15 @@
 use mathlib.Core.Path.{_≡_, refl, sym, _∙_, ap}
 use mathlib.Core.Bool.{Bool, true, false, not, _&&_, _||_, cond, and-true, and-false}
 use mathlib.Core.List.{List, [], _∷_}
-use Prim.Native.Nat.{ℕ, _+_, _*_, _%_}
-use lib.Dec.{eqb, leb}
+use Prim.Native.Nat.{ℕ}
+use lib.Dec.{eqb}
 use lib.ListN.{getD, List·getD-map}
 use Rattle.scan.specs.Lists.{all}
 use Rattle.scan.proofs.Bools.{never, and-both, both, Case, is, isnt, case}
 use Rattle.stream.specs.Streams.{pastStream, isSound}
-use Rattle.table.specs.Table.{areDistinct, isFree, openCount, streamOf}
+use Rattle.table.specs.Table.{areDistinct, isFree}
 use Rattle.table.specs.Formed.{areSizes, areOwned, wellFormed}
 use Rattle.table.proofs.Rules.{numbersOf, frontendsOf, isHoused, isProper}
-use Rattle.table.specs.declared.Session.{Session}
 use Rattle.table.specs.declared.SatBox.{SatBox}
 use Rattle.table.proofs.Places.{failed, held}
 use Rattle.formed.specs.Standings.{oldest, standingOf, isWell, oldestIn}
@@ -34,9 +33,6 @@ regroup true false c = and-false c
 
 -- what a look at its streams and one at its sessions find of a table
 module _ (t : SatBox) where
-  seats : List ℕ → Bool
-  seats feeds = areSeated (t .clock) (t .held) (t .settings .size) feeds (t .sessions)
-
   -- the sessions' homes, by the frontends at the streams' IDs
   homed-housed : {feeds : List ℕ} → feeds ≡ 0 ∷ frontendsOf (t .streams) → all (isHomed feeds) (t .sessions) ≡ all (isHoused t) (t .sessions)
   homed-housed {feeds} e =
@@ -44,27 +40,18 @@ module _ (t : SatBox) where
       (λ s. ap (λ (n : ℕ). isFree s || not (eqb n 0)) (ap (λ a. getD a (s .stream) 0) e ∙ List·getD-map (λ m. m .frontend) (pastStream ∷ t .streams) (s .stream) pastStream))
       (t .sessions)
 
-  -- a well-formed table has sound streams and seated sessions
-  parts : {feeds : List ℕ} → feeds ≡ 0 ∷ frontendsOf (t .streams) → wellFormed t ≡ true → areSeated (t .clock) (t .held) (t .settings .size) feeds (t .sessions) ≡ true
+  -- what the two looks say of a well-formed table
+  parts : wellFormed t ≡ true → (all (isSound (t .settings .frontends)) (t .streams) ≡ true)
+      × ((feeds : List ℕ) → feeds ≡ 0 ∷ frontendsOf (t .streams) → areSeated (t .clock) (t .held) (t .settings .size) feeds (t .sessions) ≡ true)
   unfolding wellFormed
-  parts e y =
+  parts y =
       let a = and-both (areSizes (t .settings)) _ y in
       let b = and-both (areDistinct (numbersOf (t .sessions))) _ (a .1) in
       let c = and-both (all (isHoused t) (t .sessions)) _ (b .1) in
       let d = and-both (areOwned (t .sessions) 1 (t .streams)) _ (c .1) in
       let f = and-both (areDistinct (frontendsOf (t .streams))) _ (d .1) in
       let g = and-both (all (isSound (t .settings .frontends)) (t .streams)) _ (f .1) in
-      both (b .0) (both (homed-housed e ∙ c .0) (g .1))
-
-  sound-part : wellFormed t ≡ true → all (isSound (t .settings .frontends)) (t .streams) ≡ true
-  unfolding wellFormed
-  sound-part y =
-      let a = and-both (areSizes (t .settings)) _ y in
-      let b = and-both (areDistinct (numbersOf (t .sessions))) _ (a .1) in
-      let c = and-both (all (isHoused t) (t .sessions)) _ (b .1) in
-      let d = and-both (areOwned (t .sessions) 1 (t .streams)) _ (c .1) in
-      let f = and-both (areDistinct (frontendsOf (t .streams))) _ (d .1) in
-      and-both (all (isSound (t .settings .frontends)) (t .streams)) _ (f .1) .0
+      (g .0, λ feeds e. both (b .0) (both (homed-housed e ∙ c .0) (g .1)))
 
   ill : (wellFormed t ≡ true → ⊥) → Ill ≡ standingOf t
   unfolding standingOf
@@ -75,14 +62,14 @@ module _ (t : SatBox) where
       by (isnt n) = rw n
 
   pub unsound : {r : Bool} → r ≡ all (isSound (t .settings .frontends)) (t .streams) → not r ≡ true → Ill ≡ standingOf t
-  unsound e q = ill (λ y. never (sound-part y) (failed e q))
+  unsound e q = ill (λ y. never (parts y .0) (failed e q))
 
   module _ {feeds : List ℕ} (e : feeds ≡ 0 ∷ frontendsOf (t .streams)) {s : Standing} (x : s ≡ seatsOf (t .clock) (t .held) (t .settings .size) feeds (t .sessions)) where
     told : isWell s ≡ areSeated (t .clock) (t .held) (t .settings .size) feeds (t .sessions)
     told = ap isWell x ∙ well-is _ _
 
     pub unseated : {w : Bool} → w ≡ isWell s → not w ≡ true → Ill ≡ standingOf t
-    unseated i q = ill (λ y. never (parts e y) (sym told ∙ failed i q))
+    unseated i q = ill (λ y. never (parts y .1 feeds e) (sym told ∙ failed i q))
 
     module _ {w u a b c : Bool} (i : w ≡ isWell s) (q : not w ≡ false) (z : u ≡ all (isSound (t .settings .frontends)) (t .streams)) (k : not u ≡ false) (f : a ≡ areSizes (t .settings)) (g : b ≡ areDistinct feeds) (o : c ≡ areOwned (t .sessions) 1 (t .streams)) where
       decides : wellFormed t ≡ (a && b) && c

@@ -14,7 +14,6 @@ use Rattle.scan.proofs.Bools.{never, and-and}
 use Rattle.stream.specs.Streams.{pastStream, areZero, isSound}
 use Rattle.stream.specs.declared.Stream.{Stream}
 use Rattle.stream.proofs.Soundness.{unused-is}
-use Rattle.table.specs.Table.{count, owns}
 use Rattle.table.specs.Formed.{areOwned}
 use Rattle.table.proofs.Rules.{frontendsOf}
 use Rattle.table.specs.declared.Session.{Session}

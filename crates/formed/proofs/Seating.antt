@@ -21,10 +21,10 @@ use Rattle.table.proofs.Counts.{bit, bit-no, bit-yes, count-none, none-count, c
 use Rattle.table.proofs.Rules.{numbersOf, isProper}
 use Rattle.table.specs.declared.Session.{Session}
 use Rattle.table.proofs.Places.{failed, held, Counting, counting-start, counting-by, counting-end}
-use Rattle.formed.specs.Standings.{latest, oldest, isWell}
+use Rattle.formed.specs.Standings.{latest, oldest}
 use Rattle.formed.specs.declared.Standing.{Standing}
 use Rattle.formed.specs.declared.Standing.the-variants.{Ill, Well}
-use Rattle.formed.proofs.Vacant.{Clear, nobody-proper}
+use Rattle.formed.proofs.Vacant.{Clear}
 
 -- a session is free, or on a stream that is live by the frontends at the streams' IDs
 abbrev pub isHomed : List ℕ → Session → Bool

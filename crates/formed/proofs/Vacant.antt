@@ -1,5 +1,5 @@
 -- The last places of a table's sessions, where nobody is: they are passed over eight at a time. Assumes nothing.
-use mathlib.Core.Path.{_≡_, refl, sym, _∙_}
+use mathlib.Core.Path.{_≡_, sym, _∙_}
 use mathlib.Core.Bool.{Bool, true, false, not, _&&_}
 use mathlib.Core.List.{List}
 use Prim.Native.Nat.{ℕ, _+_, _*_, _≤_, _<_}
@@ -7,20 +7,16 @@ use native.Mathlib.Decide.{decLt}
 use native.Mathlib.Omega.{arith}
 use lib.Dec.{eqb}
 use lib.ListN.{length, getD}
-use borrow.Author.Tests.{eq-eqb, eqb-true, not-false}
+use borrow.Author.Tests.{eqb-true, not-false}
 use Rattle.scan.proofs.Bools.{by-cases, and-both, Same, sames, same, other}
 use Rattle.table.specs.Table.{noSession}
 use Rattle.table.specs.Formed.{isBlank}
-use Rattle.table.proofs.Rules.{isProper}
 use Rattle.table.specs.declared.Session.{Session}
 
 -- nobody is at a place
 pub record Nobody (s : Session) : Type 0 where
   pub number : s .number ≡ 0
   pub blank : isBlank s ≡ true
-
-pub nobody-proper : (clock : ℕ) {s : Session} → Nobody s → isProper clock s ≡ true
-nobody-proper clock {s} n = rw (eq-eqb (s .number) 0 (n .number)) (n .blank)
 
 -- nobody is from place `end` on
 pub record Clear (l : List Session) (end : ℕ) : Type 0 where

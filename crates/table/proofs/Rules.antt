@@ -89,7 +89,7 @@ owned-one l id (m ∷ ms) e (suc k) h =
     let n : id + suc k ≡ suc id + k = omega arith in
     rw n (owned-one l (suc id) ms (and-both (isDead m || eqb (count (owns id) l) 1) _ e .1) k h)
 
-pub one-step : (l : List Session) (id : ℕ) (m : Stream) → ((m .frontend ≡ 0 → ⊥) → count (owns id) l ≡ 1) → Case (isDead m) → isDead m || eqb (count (owns id) l) 1 ≡ true
+one-step : (l : List Session) (id : ℕ) (m : Stream) → ((m .frontend ≡ 0 → ⊥) → count (owns id) l ≡ 1) → Case (isDead m) → isDead m || eqb (count (owns id) l) 1 ≡ true
 one-step l id m h (is z) = rw z
 one-step l id m h (isnt z) = rw (z, eq-eqb _ _ (h (eqb-false _ _ z)))
 
