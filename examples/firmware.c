@@ -1,6 +1,7 @@
 /*
- * A firmware's use of the box, without sockets: an evening of a few requests, at given times. It prints each answer, what the first
- * frontend is then to be set to, and the journal's records. examples/build-firmware compiles it, links the archive and runs it.
+ * A firmware's use of the box, without sockets: an evening of a few requests, at given times, and then a box whose second frontend sees two
+ * of the four sources. It prints each answer, what the first frontend is then to be set to, and the journal's records.
+ * examples/build-firmware compiles it, links the archive and runs it.
  */
 #include "satbox.h"
 
@@ -8,6 +9,11 @@
 #include <string.h>
 
 #define JOURNAL 1024u
+#define TWO_SOURCES (SATBOX_REACH(1) | SATBOX_REACH(2))
+
+/* Every frontend reaches every source; and not every one does. What the hardware has is written down once, here. */
+static const struct satbox_settings all_seen = { .size = JOURNAL, .frontends = 2, .reach = { SATBOX_REACH_ALL, SATBOX_REACH_ALL } };
+static const struct satbox_settings some_seen = { .size = JOURNAL, .frontends = 2, .reach = { SATBOX_REACH_ALL, TWO_SOURCES } };
 
 /* A firmware keeps these, and lends them to each call. */
 static struct satbox box;
@@ -93,15 +99,9 @@ static void tick(uint32_t clock)
     print_order(1);
 }
 
-int main(void)
+static void evening(void)
 {
-    struct satbox_reply r;
-
-    if (satbox_version() != SATBOX_VERSION) {
-        fputs("the archive is not that of satbox.h\n", stderr);
-        return 1;
-    }
-    printf("make: refusal %u\n", (unsigned)satbox_make(&box, 2u, JOURNAL));
+    printf("make: refusal %u\n", (unsigned)satbox_make(&box, all_seen));
     ask(0, 0x2A5F00C1u,
         "SETUP rtsp://10.0.0.5/?freq=11538&pol=v&msys=dvbs&sr=22000&fec=56&pids=0,611 RTSP/1.0\r\n"
         "CSeq: 1\r\nTransport: RTP/AVP;unicast;client_port=5000-5001\r\n\r\n");
@@ -121,11 +121,39 @@ int main(void)
     /* a clock set back changes nothing */
     tick(10);
     tick(110);
+}
 
-    r = satbox_collect(&box, journal, sizeof journal, collected, sizeof collected);
+/* A new stream takes the frontend that sees the fewest sources, its own among them, and stays there. */
+static void two_dishes(void)
+{
+    printf("make: refusal %u\n", (unsigned)satbox_make(&box, some_seen));
+    ask(0, 0x51B6E02Du,
+        "SETUP rtsp://10.0.0.5/?src=2&freq=11538&pol=v&msys=dvbs&sr=22000&fec=56&pids=0,611 RTSP/1.0\r\n"
+        "CSeq: 1\r\nTransport: RTP/AVP;unicast;client_port=5000-5001\r\n\r\n");
+    ask(1, 0x00000000u, "PLAY rtsp://10.0.0.5/stream=1?src=3 RTSP/1.0\r\nCSeq: 2\r\nSession: 51B6E02D\r\n\r\n");
+    ask(2, 0x00000000u, "PLAY rtsp://10.0.0.5/stream=1?src=1 RTSP/1.0\r\nCSeq: 3\r\nSession: 51B6E02D\r\n\r\n");
+    print_order(2);
+}
+
+static void collect(void)
+{
+    const struct satbox_reply r = satbox_collect(&box, journal, sizeof journal, collected, sizeof collected);
+
     printf("collect: refusal %u, %u bytes, then %u held\n", (unsigned)r.refusal, (unsigned)r.count, (unsigned)box.held);
     print_records(collected, r.count);
+}
+
+int main(void)
+{
+    if (satbox_version() != SATBOX_VERSION) {
+        fputs("the archive is not that of satbox.h\n", stderr);
+        return 1;
+    }
+    evening();
+    collect();
     /* a journal of another length is refused, and nothing changes */
     printf("tick with a short journal: refusal %u\n", (unsigned)satbox_tick(&box, 200u, journal, sizeof journal - SATBOX_RECORD));
+    two_dishes();
+    collect();
     return 0;
 }

@@ -405,33 +405,60 @@ static unsigned long number(const char *text, unsigned long most)
     exit(2);
 }
 
+static void usage(void)
+{
+    fprintf(stderr, "usage: host [-a ADDRESS] [-p PORT] [-f FRONTENDS] [-r SOURCES] [-j JOURNAL-SIZE] [-k KEPT-BOX] [-c] [-v] RECORDS\n");
+    exit(2);
+}
+
+/* The sources that the frontends reach, from the first on: digits, with a comma between two frontends. How many frontends these are. */
+static uint32_t read_sources(const char *text, uint8_t *reach)
+{
+    uint32_t count;
+
+    for (count = 1; count <= SATBOX_FRONTENDS_MAX; count++) {
+        uint8_t set = 0;
+
+        for (; *text >= '1' && *text <= '4'; text++)
+            set |= (uint8_t)SATBOX_REACH((unsigned)(*text - '0'));
+        if (set == 0 || (*text != ',' && *text != '\0'))
+            break;
+        reach[count - 1u] = set;
+        if (*text++ == '\0')
+            return count;
+    }
+    usage();
+    return 0;
+}
+
 static unsigned long options(int count, char **words, struct host_box *settings, const char **address)
 {
     unsigned long port = 0;
+    uint32_t given = 0;
     int option;
 
-    while ((option = getopt(count, words, "a:p:f:j:k:cv")) != -1)
+    memset(settings->made.reach, (int)SATBOX_REACH_ALL, sizeof settings->made.reach);
+    while ((option = getopt(count, words, "a:p:f:r:j:k:cv")) != -1)
         switch (option) {
         case 'a': *address = optarg; break;
         case 'p': port = number(optarg, 65535ul); break;
-        case 'f': settings->frontends = (uint32_t)number(optarg, SATBOX_FRONTENDS_MAX); break;
-        case 'j': settings->size = (uint32_t)number(optarg, SATBOX_JOURNAL_MAX); break;
+        case 'f': settings->made.frontends = (uint16_t)number(optarg, SATBOX_FRONTENDS_MAX); break;
+        case 'r': given = read_sources(optarg, settings->made.reach); break;
+        case 'j': settings->made.size = (uint32_t)number(optarg, SATBOX_JOURNAL_MAX); break;
         case 'k': settings->kept = optarg; break;
         case 'c': by_hand = true; break;
         case 'v': show = true; break;
         default: optind = count; break;
         }
-    if (optind + 1 != count) {
-        fprintf(stderr, "usage: host [-a ADDRESS] [-p PORT] [-f FRONTENDS] [-j JOURNAL-SIZE] [-k KEPT-BOX] [-c] [-v] RECORDS\n");
-        exit(2);
-    }
+    if (optind + 1 != count || given > settings->made.frontends)
+        usage();
     settings->records = words[optind];
     return port;
 }
 
 int main(int count, char **words)
 {
-    struct host_box settings = { 2u, 4096u, NULL, NULL };
+    struct host_box settings = { .made = { .size = 4096u, .frontends = 2u } };
     const char *address = "127.0.0.1";
     const unsigned long port = options(count, words, &settings, &address);
     const int listening = listen_on(address, port);

@@ -21,15 +21,14 @@
 
 struct head {
     char mark[8];
-    uint32_t frontends;
-    uint32_t size;
+    struct satbox_settings made;
     uint32_t clock;
     uint32_t box;
 };
 
 #define KEPT_MAX (sizeof(struct head) + sizeof(struct satbox) + SATBOX_JOURNAL_MAX + sizeof(uint64_t))
 
-static const char mark[8] = { 's', 'a', 't', 'b', 'o', 'x', '-', '1' };
+static const char mark[8] = { 's', 'a', 't', 'b', 'o', 'x', '-', '2' };
 static struct host_box settings;
 static struct satbox box;
 static uint8_t journal[SATBOX_JOURNAL_MAX];
@@ -95,7 +94,7 @@ static bool set_frontends(void)
 {
     uint32_t i;
 
-    for (i = 0; i < settings.frontends; i++) {
+    for (i = 0; i < settings.made.frontends; i++) {
         const struct satbox_ordered order = satbox_order(&box, i + 1u);
 
         if (!done("satbox_order", order.refusal))
@@ -142,12 +141,12 @@ static bool collect(uint32_t clock)
     }
     failing = false;
     stored += (off_t)held;
-    return done("satbox_collect", satbox_collect(&box, journal, settings.size, collected, settings.size).refusal);
+    return done("satbox_collect", satbox_collect(&box, journal, settings.made.size, collected, settings.made.size).refusal);
 }
 
 static bool after_call(uint32_t clock, bool tick)
 {
-    const bool full = box.held >= (settings.size - CLOSINGS) / 2u;
+    const bool full = box.held >= (settings.made.size - CLOSINGS) / 2u;
     const bool due = failing || clock - collected_at >= COLLECT_EVERY;
 
     if (!set_frontends())
@@ -166,7 +165,7 @@ size_t host_box_request(const uint8_t *request, size_t length, uint32_t clock, u
         fault("random numbers");
         return 0;
     }
-    reply = satbox_request(&box, request, length, clock, address, draw, answer, SATBOX_ANSWER_MIN, journal, settings.size);
+    reply = satbox_request(&box, request, length, clock, address, draw, answer, SATBOX_ANSWER_MIN, journal, settings.made.size);
     if (!done("satbox_request", reply.refusal) || !after_call(clock, false))
         return 0;
     return reply.count;
@@ -174,7 +173,7 @@ size_t host_box_request(const uint8_t *request, size_t length, uint32_t clock, u
 
 bool host_box_tick(uint32_t clock)
 {
-    return done("satbox_tick", satbox_tick(&box, clock, journal, settings.size)) && after_call(clock, true);
+    return done("satbox_tick", satbox_tick(&box, clock, journal, settings.made.size)) && after_call(clock, true);
 }
 
 /* Opens the file of records at its end. What a power cut left of half a record is overwritten by the next; no other file is touched. */
@@ -208,7 +207,7 @@ static uint64_t sum_of(const uint8_t *bytes, size_t length)
 
 static struct head head_of(uint32_t clock)
 {
-    struct head head = { { 0 }, settings.frontends, settings.size, clock, (uint32_t)sizeof box };
+    struct head head = { { 0 }, settings.made, clock, (uint32_t)sizeof box };
 
     memcpy(head.mark, mark, sizeof mark);
     return head;
@@ -217,12 +216,12 @@ static struct head head_of(uint32_t clock)
 static size_t pack(uint32_t clock)
 {
     const struct head head = head_of(clock);
-    size_t length = sizeof head + sizeof box + settings.size;
+    size_t length = sizeof head + sizeof box + settings.made.size;
     uint64_t sum;
 
     memcpy(kept, &head, sizeof head);
     memcpy(kept + sizeof head, &box, sizeof box);
-    memcpy(kept + sizeof head + sizeof box, journal, settings.size);
+    memcpy(kept + sizeof head + sizeof box, journal, settings.made.size);
     sum = sum_of(kept, length);
     memcpy(kept + length, &sum, sizeof sum);
     return length + sizeof sum;
@@ -230,7 +229,7 @@ static size_t pack(uint32_t clock)
 
 static bool unpack(size_t length, uint32_t *clock)
 {
-    const size_t expected = sizeof(struct head) + sizeof box + settings.size;
+    const size_t expected = sizeof(struct head) + sizeof box + settings.made.size;
     struct head head, here;
     uint64_t sum;
 
@@ -242,7 +241,7 @@ static bool unpack(size_t length, uint32_t *clock)
     if (length != expected + sizeof sum || sum != sum_of(kept, expected))
         return wrong(settings.kept, "the kept box is damaged");
     memcpy(&box, kept + sizeof head, sizeof box);
-    memcpy(journal, kept + sizeof head + sizeof box, settings.size);
+    memcpy(journal, kept + sizeof head + sizeof box, settings.made.size);
     *clock = head.clock;
     return true;
 }
@@ -277,7 +276,7 @@ static bool take_up(uint32_t *clock)
     close(file);
     if (length < 0)
         return fault(settings.kept);
-    if (!unpack((size_t)length, clock) || !done(settings.kept, satbox_tick(&box, *clock, journal, settings.size)))
+    if (!unpack((size_t)length, clock) || !done(settings.kept, satbox_tick(&box, *clock, journal, settings.made.size)))
         return false;
     return unlink(settings.kept) == 0 || fault(settings.kept);
 }
@@ -290,7 +289,7 @@ bool host_box_begin(const struct host_box *given, uint32_t *clock)
     random_numbers = open("/dev/urandom", O_RDONLY | O_CLOEXEC);
     if (random_numbers < 0)
         return fault("/dev/urandom");
-    if (!done("satbox_make", satbox_make(&box, settings.frontends, settings.size)) || !open_records())
+    if (!done("satbox_make", satbox_make(&box, settings.made)) || !open_records())
         return false;
     *clock = 0;
     if (settings.kept != NULL && !take_up(clock))

@@ -10,8 +10,7 @@
 #include <stdbool.h>
 
 struct host_box {
-    uint32_t frontends;                 /* F */
-    uint32_t size;                      /* C */
+    struct satbox_settings made;        /* F, C and the sets of the frontends */
     const char *records;                /* the file that collected records are appended to */
     const char *kept;                   /* the file of a kept box; NULL: each start makes a fresh one */
 };

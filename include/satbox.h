@@ -11,7 +11,7 @@
  * of their numbers; the lowest is returned. Any bytes in the box, the buffers and the request are judged, none are trusted.
  *
  * What the caller owes, for every call; no call can test it:
- *   - box is not NULL, is aligned as struct satbox is (4), and all its 1,492 bytes are initialized and writable. A call may write every
+ *   - box is not NULL, is aligned as struct satbox is (4), and all its 1,500 bytes are initialized and writable. A call may write every
  *     one of them, also where the value stays: satbox_order too, and a refused call too.
  *   - each other pointer is valid for the length beside it; with length 0 it may be NULL.
  *   - box, request, answer, journal and buffer do not overlap.
@@ -26,11 +26,14 @@
 #include <stdint.h>
 
 /* Version a.b as a number: a in the upper sixteen bits, b in the lower. A firmware compares it with satbox_version when it starts. */
-#define SATBOX_VERSION 0x00010000u      /* 1.0 */
+#define SATBOX_VERSION 0x00010001u      /* 1.1 */
 
 /* Limits. */
 #define SATBOX_FRONTENDS_MIN 1u         /* F, fixed when the box is made */
 #define SATBOX_FRONTENDS_MAX 8u
+#define SATBOX_SOURCES 4u               /* sources: src is 1 to 4 */
+#define SATBOX_REACH(source) (1u << ((source) - 1u)) /* the set of one source; a frontend's set is a sum of these for different sources, */
+#define SATBOX_REACH_ALL 15u            /* 1 to this, which is all four */
 #define SATBOX_STREAMS 8u               /* stream places; a stream's ID is its place plus 1; at most one stream on each frontend */
 #define SATBOX_SESSIONS 32u             /* session places */
 #define SATBOX_PIDS 32u                 /* PIDs in a stream that has not "all" */
@@ -61,7 +64,7 @@
 #define SATBOX_REFUSED_ANSWER 3u        /* the answer buffer is shorter than 4,096 */
 #define SATBOX_REFUSED_BUFFER 4u        /* the collecting buffer is shorter than the bytes held */
 #define SATBOX_REFUSED_FRONTEND 5u      /* the frontend is 0 or above F */
-#define SATBOX_REFUSED_SIZES 6u         /* F or C is outside its range */
+#define SATBOX_REFUSED_SIZES 6u         /* F or C is outside its range, or the set of a frontend up to F is empty or has a source beyond 4 */
 #define SATBOX_REFUSED_PLACE 7u         /* the length is no multiple of 16, or there is no such place */
 #define SATBOX_REFUSED_RECORD 8u        /* the bytes at the place, or the fields given, are no record */
 
@@ -131,11 +134,12 @@ struct satbox_stream {
     uint8_t all;                        /* 1: every PID, 0: those of the list */
 };
 
-/* What is fixed when a box is made; no other call changes it. */
+/* What is fixed when a box is made; no other call changes it. A later version may have fields more, which mean the box of before where they are 0. */
 struct satbox_settings {
     uint32_t size;                      /* C */
     uint16_t frontends;                 /* F */
     uint16_t spare;                     /* fills the struct; no call looks at it */
+    uint8_t reach[SATBOX_FRONTENDS_MAX]; /* reach[f - 1] is the set of sources that frontend f reaches; above F zeros */
 };
 
 /* The box. The firmware may read each field between two calls; only the calls write them. Integers are in the machine's byte order. */
@@ -189,12 +193,12 @@ uint32_t satbox_version(void);
 
 /*
  * Makes a fresh box where box points: nothing open, clock, sequence and bytes held 0. What stood there is gone.
- * frontends is F, size is C.
+ * settings has F, C and the set of sources of each frontend up to F. What it has above F and in spare is not looked at; the box has zeros there.
  * Refusal: 6. Then the box is as it was, byte for byte.
  * Owed: the bytes at box are initialized before the call, as those of a static struct are. Records not yet collected are stored before: a
  * fresh box holds no bytes and writes from the journal's start.
  */
-uint32_t satbox_make(struct satbox *box, uint32_t frontends, uint32_t size);
+uint32_t satbox_make(struct satbox *box, struct satbox_settings settings);
 
 /*
  * Answers one RTSP request.
@@ -286,18 +290,19 @@ SATBOX_AT(satbox_stream, fec, 96);
 SATBOX_AT(satbox_stream, count, 100);
 SATBOX_AT(satbox_stream, frontend, 102);
 SATBOX_AT(satbox_stream, all, 103);
-SATBOX_IS(settings_size, sizeof(struct satbox_settings), 8);
+SATBOX_IS(settings_size, sizeof(struct satbox_settings), 16);
 SATBOX_AT(satbox_settings, size, 0);
 SATBOX_AT(satbox_settings, frontends, 4);
 SATBOX_AT(satbox_settings, spare, 6);
-SATBOX_IS(box_size, sizeof(struct satbox), 1492);
+SATBOX_AT(satbox_settings, reach, 8);
+SATBOX_IS(box_size, sizeof(struct satbox), 1500);
 SATBOX_AT(satbox, sessions, 0);
 SATBOX_AT(satbox, streams, 640);
 SATBOX_AT(satbox, settings, 1472);
-SATBOX_AT(satbox, held, 1480);
-SATBOX_AT(satbox, clock, 1484);
-SATBOX_AT(satbox, sequence, 1488);
-SATBOX_AT(satbox, spare, 1490);
+SATBOX_AT(satbox, held, 1488);
+SATBOX_AT(satbox, clock, 1492);
+SATBOX_AT(satbox, sequence, 1496);
+SATBOX_AT(satbox, spare, 1498);
 SATBOX_IS(record_size, sizeof(struct satbox_record), 16);
 SATBOX_AT(satbox_record, kind, 0);
 SATBOX_AT(satbox_record, cause, 1);

@@ -45,8 +45,10 @@ _Static_assert(sizeof(struct satbox) == sizeof(struct plain_box), "the same byte
 static void open_sessions(unsigned sessions)
 {
     const unsigned owners = sessions > 8 ? 4 : 2;
+    struct plain_settings settings = {.size = SIZE, .frontends = PLAIN_FRONTENDS};
+    memset(settings.reach, PLAIN_REACH_ALL, sizeof settings.reach);
     memset(&start, 0, sizeof start);
-    plain_make(&start.box, PLAIN_FRONTENDS, SIZE);
+    plain_make(&start.box, settings);
     for (unsigned i = 0; i < sessions; i++) {
         const unsigned port = 2000 + 2 * i;
         if (i < owners)

@@ -3,7 +3,7 @@
  * sequences that each start with a fresh box, and compares everything after each. A difference ends the run; its
  * sequence is made as short as it can be and printed, and `compare --play FILE` makes the calls of such a text
  * again. At the end it says what was reached. Ends with 1 on a difference, and with 2 if 100,000 calls or more
- * left a status or a refusal out.
+ * left out a status, a refusal or anything else that is counted.
  */
 #include "compare.h"
 
@@ -40,7 +40,7 @@ static void print_call(const struct call *call)
     printf("%s", kind_names[call->kind]);
     for (size_t i = 0; i < kind_numbers[call->kind]; i++)
         printf(" %" PRIu64, call->numbers[i]);
-    if (call->kind == REQUEST || call->kind == LOOK || call->kind == POKE)
+    if (call->kind == MAKE || call->kind == REQUEST || call->kind == LOOK || call->kind == POKE)
         print_bytes(call);
     putchar('\n');
 }
@@ -67,11 +67,12 @@ static bool read_bytes(const char *text, struct call *call)
     return true;
 }
 
-/* Would the call reach past the room there is? Only a text written by hand can. */
+/* Does the call stay within the room there is, and has it all its bytes? Only a text written by hand may not. */
 static bool fits(const struct call *call)
 {
     const uint64_t *n = call->numbers;
     switch (call->kind) {
+    case MAKE: return call->length == PLAIN_FRONTENDS;
     case REQUEST: return n[3] <= ANSWER_ROOM && n[4] <= JOURNAL_ROOM;
     case TICK: return n[1] <= JOURNAL_ROOM;
     case COLLECT: return n[0] <= JOURNAL_ROOM && n[1] <= JOURNAL_ROOM;
@@ -201,12 +202,40 @@ static bool print_refusals(void)
     return all;
 }
 
+struct row {
+    const char *name;
+    unsigned long times;
+};
+
+static bool print_rows(const struct row *rows, size_t length)
+{
+    bool all = true;
+    for (size_t i = 0; i < length; i++) {
+        printf("%-42s %10lu%s\n", rows[i].name, rows[i].times, rows[i].times == 0 ? "  NOT REACHED" : "");
+        all &= rows[i].times > 0;
+    }
+    return all;
+}
+
+static bool print_sets(void)
+{
+    const struct reached_sets *sets = &reached.sets;
+    const struct row rows[] = {
+        {"makings refused for an empty set", sets->empty}, {"for a fifth source", sets->beyond},
+        {"boxes made with sets that are not full", sets->made}, {"tables refused for a set up to F", sets->bad_set},
+        {"for a set above F", sets->bad_above}, {"for a stream's src", sets->bad_src},
+        {"new streams past a free frontend", sets->past_free},
+        {"past one that reaches the src too", sets->past_reaching},
+        {"503 for a later src in PLAY", sets->play}, {"in SETUP", sets->setup},
+        {"503 where no free frontend reaches the src", sets->none}, {"where the named one does not", sets->named},
+        {"later srcs taken by a set not full", sets->changed}
+    };
+    return print_rows(rows, sizeof rows / sizeof *rows);
+}
+
 static bool print_rest(void)
 {
-    const struct {
-        const char *name;
-        unsigned long times;
-    } rows[] = {
+    const struct row rows[] = {
         {"opened as owner", reached.opened}, {"joined", reached.joined}, {"closed by teardown", reached.closed[1]},
         {"closed by time-out", reached.closed[2]}, {"closed with the owner", reached.closed[3]},
         {"calls with a cascade", reached.cascades}, {"journals filled to the last byte", reached.full_journals},
@@ -214,12 +243,7 @@ static bool print_rest(void)
         {"openings past a number taken or 0", reached.number_taken}, {"orders on", reached.orders_on},
         {"tables changed by hand and taken", reached.tables_good}, {"and refused", reached.tables_bad}
     };
-    bool all = true;
-    for (size_t i = 0; i < sizeof rows / sizeof *rows; i++) {
-        printf("%-34s %10lu%s\n", rows[i].name, rows[i].times, rows[i].times == 0 ? "  NOT REACHED" : "");
-        all &= rows[i].times > 0;
-    }
-    return all;
+    return print_rows(rows, sizeof rows / sizeof *rows);
 }
 
 static bool print_reached(void)
@@ -227,6 +251,7 @@ static bool print_reached(void)
     bool all = print_statuses();
     all &= print_refusals();
     all &= print_rest();
+    all &= print_sets();
     return all;
 }
 

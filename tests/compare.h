@@ -22,7 +22,7 @@ enum {
 
 /* A call, or a change of the table by hand. The numbers of each kind, in their order, stand beside it. */
 enum kind {
-    MAKE,     /* frontends, size */
+    MAKE,     /* frontends, size, spare; the sets of the frontends, a byte for each */
     REQUEST,  /* clock, address, draw, answer's length, journal's length; the request's bytes */
     TICK,     /* clock, journal's length */
     COLLECT,  /* journal's length, buffer's length */
@@ -60,6 +60,18 @@ struct side {
     uint8_t buffer[JOURNAL_ROOM + GUARD];
 };
 
+/* What was decided by the sets of the frontends, order 1 of document 02. */
+struct reached_sets {
+    unsigned long empty, beyond;              /* makings refused for nothing but such sets */
+    unsigned long made;                       /* boxes made with a frontend that does not reach all four */
+    unsigned long bad_set, bad_above;         /* tables refused for nothing but a set up to F, or above */
+    unsigned long bad_src;                    /* or a stream's src that its frontend does not reach */
+    unsigned long past_free, past_reaching;   /* new streams past a lower free frontend, one that reaches the src */
+    unsigned long play, setup;                /* 503 of step 17 for nothing but a src */
+    unsigned long none, named;                /* 503 of step 18: no free frontend reaches; the named one does not */
+    unsigned long changed;                    /* later srcs taken where the frontend does not reach all four */
+};
+
 /* How often what was reached. A status is counted at its number; methods in the order of compare_reached.c. */
 enum { METHODS = 5, STATUSES = 600, REFUSALS = 9 };
 
@@ -76,14 +88,15 @@ struct reached {
     unsigned long number_taken;               /* openings whose number is not the draw */
     unsigned long orders_on;
     unsigned long tables_good, tables_bad;    /* changed by hand, and taken or refused by the next call */
+    struct reached_sets sets;
 };
 
 /* compare_both.c */
 
 extern struct side archive, plain;
 
-/* The bytes held before the call that was made last. */
-extern uint32_t held_before;
+/* The table before the call that was made last. */
+extern struct plain_box box_before;
 
 /* The name of a kind in a sequence's text, and how many numbers follow it. */
 extern const char *const kind_names[KINDS];
@@ -117,6 +130,15 @@ bool once_in(uint64_t of);
 uint64_t any_of(const uint64_t *list, size_t count);
 
 uint32_t some_address(void);
+
+/* The settings that a making hands over. */
+struct plain_settings settings_of(const struct call *call);
+
+/*
+ * Chooses sets for the frontends up to F, zeros above: full, lifelike, with a source that nobody sees, or any. Once
+ * in `odd` times one is empty or has a source beyond 4.
+ */
+void choose_sets(struct plain_settings *settings, uint64_t odd);
 
 /* Makes it a call of this kind with these first two numbers, the rest 0, and no bytes. */
 void set_call(struct call *call, enum kind kind, uint64_t n0, uint64_t n1);

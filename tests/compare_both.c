@@ -13,15 +13,16 @@
 #include <string.h>
 
 _Static_assert(sizeof(struct satbox) == sizeof(struct plain_box), "the same bytes are both");
+_Static_assert(sizeof(struct satbox_settings) == sizeof(struct plain_settings), "the same bytes are both");
 _Static_assert(sizeof(struct satbox_stream) == sizeof(struct plain_stream), "the same bytes are both");
 
 struct side archive, plain;
-uint32_t held_before;
+struct plain_box box_before;
 
 const char *const kind_names[KINDS] = {
     "make", "request", "tick", "collect", "order", "read", "look", "write", "save", "poke", "restore"
 };
-const size_t kind_numbers[KINDS] = {2, 5, 2, 2, 1, 2, 1, 7, 0, 1, 0};
+const size_t kind_numbers[KINDS] = {3, 5, 2, 2, 1, 2, 1, 7, 0, 1, 0};
 
 /* What buffers hold before a call: no byte like its neighbours. */
 static uint8_t pattern[JOURNAL_ROOM + GUARD];
@@ -144,13 +145,21 @@ static struct satbox_record entry_of(const struct call *call)
     return entry;
 }
 
+static uint32_t archive_made(struct satbox *box, const struct call *call)
+{
+    const struct plain_settings given = settings_of(call);
+    struct satbox_settings settings;
+    memcpy(&settings, &given, sizeof settings);
+    return satbox_make(box, settings);
+}
+
 static void call_archive(struct side *side, const struct call *call)
 {
     struct outcome *outcome = &side->outcome;
     struct satbox *box = (struct satbox *)(void *)&side->box;
     const uint64_t *n = call->numbers;
     switch (call->kind) {
-    case MAKE: outcome->refusal = satbox_make(box, word(call, 0), word(call, 1)); break;
+    case MAKE: outcome->refusal = archive_made(box, call); break;
     case REQUEST:
         keep_reply(outcome, satbox_request(box, request_of(call), call->length, word(call, 0), word(call, 1),
                                            word(call, 2), lent(side->answer, n[3]), n[3],
@@ -208,7 +217,7 @@ static void call_plain(struct side *side, const struct call *call)
     struct outcome *outcome = &side->outcome;
     const uint64_t *n = call->numbers;
     switch (call->kind) {
-    case MAKE: outcome->refusal = (uint32_t)plain_make(&side->box, word(call, 0), word(call, 1)); break;
+    case MAKE: outcome->refusal = (uint32_t)plain_make(&side->box, settings_of(call)); break;
     case REQUEST: outcome->refusal = plain_requested(side, call); break;
     case TICK:
         outcome->refusal = (uint32_t)plain_tick(&side->box, word(call, 0), lent(side->journal, n[1]), n[1]);
@@ -275,7 +284,10 @@ static const char *stream_field(size_t offset)
 
 static const char *box_field(size_t offset)
 {
-    static const char *const names[] = {"size", "size", "frontends", "spare (settings)", "held", "held", "clock", "clock", "sequence", "spare"};
+    static const char *const names[] = {
+        "size", "size", "frontends", "spare (settings)", "reach", "reach", "reach", "reach", "held", "held", "clock", "clock", "sequence",
+        "spare"
+    };
     return names[(offset - offsetof(struct plain_box, settings)) / 2];
 }
 
@@ -363,7 +375,7 @@ bool call_both(const struct call *call, bool tell)
         journal_reach = journal_lent(call);
     make_ready(&archive, call);
     make_ready(&plain, call);
-    held_before = plain.box.held;
+    box_before = plain.box;
     int number = sigsetjmp(back, 1);
     if (number != 0) {
         if (tell)

@@ -194,16 +194,53 @@ static void choose_look(struct call *call)
     call->length = places * PLAIN_RECORD_BYTES - (once_in(16) ? 1 + below(15) : 0);
 }
 
-/* The making of a box; F and C are each out of range once in `odd` times. */
+struct plain_settings settings_of(const struct call *call)
+{
+    struct plain_settings settings = {.size = (uint32_t)call->numbers[1], .frontends = (uint16_t)call->numbers[0]};
+    settings.spare = (uint16_t)call->numbers[2];
+    memcpy(settings.reach, call->bytes, sizeof settings.reach);
+    return settings;
+}
+
+/* A set for one frontend, by style: full; all or two of the four, as in life; one without the unseen; any. */
+static uint8_t some_set(uint64_t style, uint8_t unseen)
+{
+    uint8_t set = (uint8_t)(1 + below(PLAIN_REACH_ALL));
+    switch (style) {
+    case 0: case 1: case 2: return PLAIN_REACH_ALL;
+    case 3: case 4: return (uint8_t)ANY_OF(PLAIN_REACH_ALL, PLAIN_REACH_ALL, 3, 12);
+    case 5: set &= (uint8_t)~unseen; return set == 0 ? PLAIN_REACH_ALL ^ unseen : set;
+    default: return set;
+    }
+}
+
+void choose_sets(struct plain_settings *settings, uint64_t odd)
+{
+    const uint64_t style = below(8);
+    const uint8_t unseen = (uint8_t)(1u << below(PLAIN_SOURCES));
+    for (size_t i = 0; i < PLAIN_FRONTENDS; i++)
+        settings->reach[i] = i < settings->frontends ? some_set(style, unseen) : 0;
+    if (once_in(odd))
+        settings->reach[below(settings->frontends)] = (uint8_t)ANY_OF(0, 0, 16, 17, 31, 128, 240, 255);
+}
+
+/* The making of a box; F, C and a set are each out of range once in `odd` times. */
 static void choose_make(struct call *call, uint64_t odd)
 {
-    uint64_t frontends = 1 + below(8);
+    struct plain_settings settings = {.frontends = (uint16_t)(1 + below(8))};
     uint64_t size = once_in(3) ? 1024 + 16 * below(33) : once_in(20) ? 65536 - 16 * below(2) : 1024;
+    bool above = once_in(3);
+    choose_sets(&settings, odd);
+    for (size_t i = settings.frontends; above && i < PLAIN_FRONTENDS; i++)
+        settings.reach[i] = (uint8_t)chance();
     if (once_in(odd))
-        frontends = ANY_OF(0, 9, 255, 256, 257, 65536, 65537, UINT32_MAX);
+        settings.frontends = (uint16_t)ANY_OF(0, 9, 255, 256, 257, UINT16_MAX);
     if (once_in(odd))
         size = ANY_OF(0, 16, 1008, 1023, 1025, 1032, 1040, 65535, 65537, 65552, 131072, 0x80000400, UINT32_MAX);
-    set_call(call, MAKE, frontends, size);
+    set_call(call, MAKE, settings.frontends, size);
+    call->numbers[2] = once_in(4) ? chance() & UINT16_MAX : 0;
+    call->length = sizeof settings.reach;
+    memcpy(call->bytes, settings.reach, sizeof settings.reach);
 }
 
 static void choose_call(struct call *call, const struct plain_box *box)

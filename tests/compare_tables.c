@@ -43,10 +43,10 @@ static const struct field in_box[] = {
     {0, 4, 9, {0, 1008, 1024, 1032, 1040, 65520, 65536, 65552, 66560}},  /* size */
     {4, 2, 10, {0, 1, 2, 3, 7, 8, 9, 256, 257, 65535}},                /* frontends */
     {6, 2, 3, {0, 1, 65535}},                                          /* spare */
-    {8, 4, 6, {0, 8, 16, 1024, 0xFFFFFFF0, 0x80000000}},               /* held */
-    {12, 4, 5, {0, 59, 60, UINT32_MAX, UINT32_MAX - 60}},              /* clock */
-    {16, 2, 3, {0, 65534, 65535}},                                     /* sequence */
-    {18, 2, 3, {0, 1, 65535}}                                          /* spare */
+    {16, 4, 6, {0, 8, 16, 1024, 0xFFFFFFF0, 0x80000000}},              /* held */
+    {20, 4, 5, {0, 59, 60, UINT32_MAX, UINT32_MAX - 60}},              /* clock */
+    {24, 2, 3, {0, 65534, 65535}},                                     /* sequence */
+    {26, 2, 3, {0, 1, 65535}}                                          /* spare */
 };
 
 static const uint8_t *bytes_of(const struct plain_box *box)
@@ -145,6 +145,32 @@ static void poke_held(struct call *call, const struct plain_box *box)
     memcpy(call->bytes, &held, sizeof held);
 }
 
+/* A set: any, one that is none, or for a frontend held one without its src. */
+static void poke_set(struct call *call, const struct plain_box *box)
+{
+    const struct plain_stream *stream = &box->streams[some_stream_place(box)];
+    size_t place = below(PLAIN_FRONTENDS);
+    uint8_t set = (uint8_t)(once_in(3) ? ANY_OF(0, 1, 15, 16, 31, 255) : 1 + below(PLAIN_REACH_ALL));
+    if (once_in(2) && stream->frontend >= 1 && stream->frontend <= PLAIN_FRONTENDS) {
+        place = stream->frontend - 1u;
+        set = (uint8_t)(PLAIN_REACH_ALL & ~(1u << ((stream->values.src - 1) & 7)));
+    }
+    set_call(call, POKE, offsetof(struct plain_box, settings.reach) + place, 0);
+    call->length = 1;
+    call->bytes[0] = set;
+}
+
+/* A live stream's src, among the four. */
+static void poke_src(struct call *call, const struct plain_box *box)
+{
+    const size_t place = some_stream_place(box);
+    const uint32_t src = 1 + (uint32_t)below(PLAIN_SOURCES);
+    set_call(call, POKE, offsetof(struct plain_box, streams) + place * sizeof(struct plain_stream)
+                             + offsetof(struct plain_stream, values.src), 0);
+    call->length = sizeof src;
+    memcpy(call->bytes, &src, sizeof src);
+}
+
 /* A whole place put over another: numbers twice, owners twice, frontends twice. */
 static void poke_place(struct call *call, const struct plain_box *box)
 {
@@ -173,10 +199,19 @@ static void poke_bytes(struct call *call)
 
 /* A table made up whole: well formed, mostly, but in an order no box comes to soon. */
 
-static void make_up_values(struct plain_values *values)
+/* A source of a set, mostly. */
+static uint32_t make_up_src(uint8_t set)
+{
+    uint32_t src = 1 + (uint32_t)below(PLAIN_SOURCES);
+    for (int tries = 0; tries < 64 && (set >> (src - 1) & 1) == 0 && !once_in(200); tries++)
+        src = 1 + (uint32_t)below(PLAIN_SOURCES);
+    return src;
+}
+
+static void make_up_values(struct plain_values *values, uint8_t set)
 {
     bool old = once_in(2);
-    values->src = 1 + (uint32_t)below(4);
+    values->src = make_up_src(set);
     values->freq = once_in(4) ? 0 : (uint32_t)(once_in(4) ? ANY_OF(1070000, 1275000) : 1070000 + below(205001));
     values->pol = (uint32_t)below(5);
     values->msys = old ? 1 : 2 * (uint32_t)below(2);
@@ -187,10 +222,10 @@ static void make_up_values(struct plain_values *values)
     values->fec = (uint32_t)below(old ? 6 : 10);
 }
 
-static void make_up_stream(struct plain_stream *stream, size_t frontend)
+static void make_up_stream(struct plain_stream *stream, size_t frontend, uint8_t set)
 {
     uint64_t pid = below(3);
-    make_up_values(&stream->values);
+    make_up_values(&stream->values, set);
     stream->frontend = (uint8_t)frontend;
     stream->all = once_in(6);
     if (stream->all)
@@ -247,12 +282,13 @@ static void poke_made_up(struct call *call, const struct plain_box *old)
     memset(&box, 0, sizeof box);
     box.settings.frontends = (uint16_t)(1 + below(8));
     box.settings.size = once_in(2) ? old->settings.size : (uint32_t)(1024 + 16 * below(16));
+    choose_sets(&box.settings, 12);
     box.clock = once_in(8) ? (uint32_t)ANY_OF(0, 30, 60, UINT32_MAX, UINT32_MAX - 30) : old->clock;
     box.sequence = (uint16_t)(once_in(2) ? ANY_OF(0, 65535, 65534, 65530) : chance());
     for (size_t frontend = 1; frontend <= box.settings.frontends; frontend++) {
         size_t place = below(PLAIN_STREAMS);
         if (box.streams[place].frontend == 0 && !once_in(4))
-            make_up_stream(&box.streams[place], frontend);
+            make_up_stream(&box.streams[place], frontend, box.settings.reach[frontend - 1]);
     }
     make_up_sessions(&box);
     for (size_t i = 0; i < PLAIN_SESSIONS; i++)
@@ -266,11 +302,13 @@ static void poke_made_up(struct call *call, const struct plain_box *old)
 
 void choose_poke(struct call *call, const struct plain_box *box)
 {
-    switch (below(16)) {
+    switch (below(18)) {
     case 0: poke_bytes(call); break;
     case 1: case 2: poke_place(call, box); break;
     case 3: case 4: poke_made_up(call, box); break;
     case 5: poke_held(call, box); break;
+    case 6: case 7: poke_set(call, box); break;
+    case 8: poke_src(call, box); break;
     default: poke_field(call, box); break;
     }
 }

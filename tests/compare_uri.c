@@ -132,6 +132,10 @@ static unsigned choose_names(enum errand errand)
         chosen |= 1u << FREQ | 1u << POL | 1u << MSYS | 1u << SR | 1u << FEC;
     if (!once_in(4))
         chosen &= ~(1u << FE);
+    if (once_in(3))
+        chosen |= 1u << SRC;
+    if (errand == OPEN && once_in(6))
+        chosen |= 1u << FE;
     if (errand == OPEN || once_in(4))
         chosen |= once_in(2) ? 1u << PIDS : 0;
     else

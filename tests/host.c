@@ -18,6 +18,7 @@
 #define SECOND "src=2&freq=10744.25&pol=h&msys=dvbs2&mtype=8psk&plts=on&ro=0.25&sr=27500&fec=910&pids=all"
 #define SECOND_ORDER "src=2 freq=10744.25 pol=h msys=dvbs2 mtype=8psk plts=on ro=0.25 sr=27500 fec=910 pids=all"
 #define OPTIONS "OPTIONS rtsp://127.0.0.1/ RTSP/1.0\r\nCSeq: %d\r\n\r\n"
+#define USAGE "usage: host [-a ADDRESS] [-p PORT] [-f FRONTENDS] [-r SOURCES] [-j JOURNAL-SIZE] [-k KEPT-BOX] [-c] [-v] RECORDS"
 #define CLIENTS 40
 #define PLACES 64
 #define HALF 10u
@@ -47,14 +48,14 @@ static const char *ask_setup(int television, const char *what)
     return ask(television, "SETUP rtsp://127.0.0.1/%s RTSP/1.0\r\nCSeq: 1\r\nTransport: RTP/AVP;unicast;client_port=5000-5001\r\n\r\n", what);
 }
 
-static uint32_t opened(int television, const char *what, int kind, int stream)
+static uint32_t opened(int television, const char *what, int kind, int stream, int frontend)
 {
     const char *answer = ask_setup(television, what);
     uint32_t session;
 
     CHECK(status_is(answer, "200") && stream_in(answer) == stream && is_for(answer, television));
     session = session_in(answer);
-    note(kind, 0, session, stream, stream);
+    note(kind, 0, session, stream, frontend);
     return session;
 }
 
@@ -63,7 +64,7 @@ static uint32_t own(int television, const char *query, int stream)
     char what[256];
 
     snprintf(what, sizeof what, "?%s", query);
-    return opened(television, what, 1, stream);
+    return opened(television, what, 1, stream, stream);
 }
 
 static uint32_t join(int television, int stream)
@@ -71,7 +72,7 @@ static uint32_t join(int television, int stream)
     char what[16];
 
     snprintf(what, sizeof what, "stream=%d", stream);
-    return opened(television, what, 2, stream);
+    return opened(television, what, 2, stream, stream);
 }
 
 /* Two owners, two joiners, a channel change; one joiner and one owner vanish; the other owner leaves, and its joiner must too. */
@@ -419,7 +420,7 @@ static void restart(const char *const *words)
     expect_told(records);
     damage(kept, 700);
     snprintf(line, sizeof line, "host: %s: the kept box is damaged", kept);
-    expect_refused(host, words, line);
+    expect_refused(host, words, 1, line);
     damage(kept, 700);
     start(host, words, "frontend 1: " FIRST_ORDER);
     CHECK(length_of(kept) < 0);
@@ -492,6 +493,48 @@ static void lost_records(void)
     stop(1, "host: /dev/full: the last records are lost");
 }
 
+/* The second frontend sees two of the four sources: a new stream with one of these takes it, and stays there. */
+static void two_dishes(void)
+{
+    const char *const words[] = { "-c", "-r", "1234,12", other, NULL };
+    uint32_t one, two;
+    int television;
+
+    forget();
+    set_clock(0);
+    CHECK(unlink(other) == 0);
+    start(host, words, NULL);
+    television = dial(2);
+    one = opened(television, "?" FIRST, 1, 1, 2);
+    CHECK(status_is(ask_play(television, 1, "?src=3", one), "503"));
+    CHECK(status_is(ask_play(television, 1, "", one), "200"));
+    expect_line("frontend 2: " FIRST_ORDER);
+    CHECK(status_is(ask_setup(television, "?src=4&fe=2"), "503"));
+    two = opened(television, "?src=4", 1, 2, 1);
+    CHECK(status_is(ask_teardown(television, 1, one), "200"));
+    note(3, 1, one, 1, 2);
+    expect_line("frontend 2: off");
+    CHECK(status_is(ask_setup(television, "?src=3"), "503"));
+    CHECK(status_is(ask_teardown(television, 2, two), "200"));
+    note(3, 1, two, 2, 1);
+    hang_up(television);
+    stop(0, NULL);
+    expect_told(other);
+}
+
+/* Sources that are none, or those of more frontends than there are: the host does not start. */
+static void odd_sources(void)
+{
+    static const char *const odd[] = { "", ",", "0", "5", "12,", ",12", "12,,3", "12;3", " 12", "12 ", "all", "1234,12,1" };
+    size_t i;
+
+    for (i = 0; i < sizeof odd / sizeof odd[0]; i++) {
+        const char *const words[] = { "-c", "-r", odd[i], other, NULL };
+
+        expect_refused(host, words, 2, USAGE);
+    }
+}
+
 static time_t seconds(void)
 {
     struct timespec time;
@@ -555,6 +598,8 @@ int main(int count, char **words)
     printf("host: %ld records tell what happened\n", noted_bytes() / 16);
     full_disk();
     lost_records();
+    two_dishes();
+    odd_sources();
     real_time();
     return 0;
 }

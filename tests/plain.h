@@ -1,6 +1,7 @@
 /*
- * Document 01 in plain C: the calls of the box as a firmware would make them. A second implementation, written
- * from the paper alone, so that the first one can be compared with it call by call and field by field.
+ * Document 01 with order 1 of document 02 in plain C: the calls of the box as a firmware would make them. A second
+ * implementation, written from the papers alone, so that the first one can be compared with it call by call and
+ * field by field.
  */
 #ifndef PLAIN_H
 #define PLAIN_H
@@ -11,6 +12,8 @@
 /* The limits of document 01. */
 enum {
     PLAIN_FRONTENDS = 8,         /* most frontends F of a box; the least is 1 */
+    PLAIN_SOURCES = 4,           /* sources, 1 to 4 */
+    PLAIN_REACH_ALL = 15,        /* the set of all of them, a bit for each, source 1 the lowest */
     PLAIN_STREAMS = 8,           /* stream places; a stream's ID is its place + 1 */
     PLAIN_SESSIONS = 32,         /* session places */
     PLAIN_PIDS = 32,             /* most PIDs in a stream that has not "all" */
@@ -32,7 +35,7 @@ enum plain_refusal {
     PLAIN_SHORT_ANSWER = 3,  /* the answer buffer is shorter than 4,096 */
     PLAIN_SHORT_BUFFER = 4,  /* the collecting buffer is shorter than the bytes held */
     PLAIN_BAD_FRONTEND = 5,  /* the frontend number is 0 or above F */
-    PLAIN_BAD_MAKING = 6,    /* F or C outside its range */
+    PLAIN_BAD_MAKING = 6,    /* F or C outside its range, or a set that is empty or has a source beyond 4 */
     PLAIN_NO_PLACE = 7,      /* length not a multiple of 16, or no such place */
     PLAIN_NO_RECORD = 8      /* the bytes, or the fields, are no record */
 };
@@ -72,9 +75,10 @@ struct plain_stream {
 
 /* What is fixed when a box is made. */
 struct plain_settings {
-    uint32_t size;       /* journal size C */
-    uint16_t frontends;  /* F */
-    uint16_t spare;      /* fills the struct: any value, which stays */
+    uint32_t size;                   /* journal size C */
+    uint16_t frontends;              /* F */
+    uint16_t spare;                  /* fills the struct: any value, which stays */
+    uint8_t reach[PLAIN_FRONTENDS];  /* the set of sources each frontend reaches, frontend 1 first; zeros above F */
 };
 
 /* The table. Any bytes may stand here: each call judges them first. */
@@ -102,12 +106,15 @@ struct plain_record {
 _Static_assert(sizeof(struct plain_session) == 20, "a session has no padding");
 _Static_assert(sizeof(struct plain_values) == 36, "values have no padding");
 _Static_assert(sizeof(struct plain_stream) == 104, "a stream has no padding");
-_Static_assert(sizeof(struct plain_settings) == 8, "settings have no padding");
-_Static_assert(sizeof(struct plain_box) == 1492, "a box has no padding");
+_Static_assert(sizeof(struct plain_settings) == 16, "settings have no padding");
+_Static_assert(sizeof(struct plain_box) == 1500, "a box has no padding");
 _Static_assert(sizeof(struct plain_record) == 16, "a record has its two bytes of padding only");
 
-/* Makes a fresh box. Refusal 6, and then the box stays. */
-int plain_make(struct plain_box *box, uint32_t frontends, uint32_t size);
+/*
+ * Makes a fresh box. What the settings have in spare and above F is ignored, and zeros in the box. Refusal 6, and
+ * then the box stays.
+ */
+int plain_make(struct plain_box *box, struct plain_settings settings);
 
 /*
  * Sweeps, then answers one request: the answer fills the first *answer_count bytes of the answer buffer, new

@@ -52,7 +52,7 @@ enum {
 
 /* The ranges of the numbers in the attribute table, and of the client's port. */
 enum {
-    SRC_MOST = 4,
+    SRC_MOST = PLAIN_SOURCES,
     FREQ_LEAST = 1070000,
     FREQ_MOST = 1275000,
     SR_LEAST = 1000,
@@ -85,8 +85,11 @@ enum cause { CAUSE_NONE = 0, CAUSE_TEARDOWN = 1, CAUSE_TIME_OUT = 2, CAUSE_OWNER
 
 /* plain_table.c */
 
-/* Are F and C in their ranges? */
-bool plain_limits_in_range(uint32_t frontends, uint32_t size);
+/* Are F and C in their ranges, and is each set up to F one of sources 1 to 4, and not empty? */
+bool plain_settings_in_range(const struct plain_settings *settings);
+
+/* Does a frontend, 1 to F, reach a source, 1 to 4? */
+bool plain_reaches(const struct plain_box *box, uint32_t frontend, uint32_t src);
 
 /* The combination rule; a missing value, code 0, offends nothing. */
 bool plain_combination_holds(const struct plain_values *values);

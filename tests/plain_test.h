@@ -42,8 +42,14 @@ extern uint32_t now, address, draw;
 /* The journal, at the end of its room. */
 uint8_t *journal(void);
 
-/* Makes a fresh box, and fills the journal's room. */
-void fresh(uint32_t frontends, uint32_t size);
+/* The settings of a box with F and C whose frontends reach all four sources. */
+struct plain_settings all_reaching(uint16_t frontends, uint32_t size);
+
+/* Makes a fresh box of settings, and fills the journal's room. */
+void fresh_of(struct plain_settings settings);
+
+/* The same with F and C, where every frontend reaches all four. */
+void fresh(uint16_t frontends, uint32_t size);
 
 /* Are the bytes all as they were filled; are they all zero? */
 bool filled(const uint8_t *bytes, size_t length);
@@ -109,6 +115,10 @@ void test_query(void);
 
 void test_steps(void);
 void test_texts(void);
+
+/* plain_test_reach.c */
+
+void test_reach(void);
 
 /* plain_test_sweep.c */
 

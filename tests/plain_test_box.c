@@ -18,13 +18,26 @@ uint8_t *journal(void)
     return journal_room + sizeof journal_room - box.settings.size;
 }
 
-void fresh(uint32_t frontends, uint32_t size)
+struct plain_settings all_reaching(uint16_t frontends, uint32_t size)
 {
-    check(plain_make(&box, frontends, size) == 0, "a box can be made");
+    struct plain_settings settings = {.size = size, .frontends = frontends};
+    for (size_t i = 0; i < frontends && i < PLAIN_FRONTENDS; i++)
+        settings.reach[i] = PLAIN_REACH_ALL;
+    return settings;
+}
+
+void fresh_of(struct plain_settings settings)
+{
+    check(plain_make(&box, settings) == 0, "a box can be made");
     memset(journal_room, FILL, sizeof journal_room);
     now = 0;
     address = 0xC0A8B227;
     draw = 1;
+}
+
+void fresh(uint16_t frontends, uint32_t size)
+{
+    fresh_of(all_reaching(frontends, size));
 }
 
 bool filled(const uint8_t *bytes, size_t length)
@@ -83,7 +96,7 @@ static void check_kept(const struct plain_box *before, const uint8_t *journal_be
     uint32_t clock = now > before->clock ? now : before->clock;
     check(well_formed(), "the table stays well formed");
     check(box.clock == clock, "the larger clock is stored");
-    check(box.settings.frontends == before->settings.frontends && box.settings.size == before->settings.size, "F and C stay");
+    check(memcmp(&box.settings, &before->settings, sizeof box.settings) == 0, "the settings stay");
     check(box.held >= before->held && memcmp(journal(), journal_before, before->held) == 0
               && memcmp(journal() + box.held, journal_before + box.held, box.settings.size - box.held) == 0,
           "the journal stays below the bytes held and above the new records");

@@ -27,7 +27,7 @@ static const char *pick(const char *const words[], uint32_t count)
 static void chance_path(char *path, size_t size)
 {
     static const char *const pairs[] = {
-        "src=1", "src=4", "fe=1", "fe=2", "fe=3", "freq=11538", "freq=12750.01", "pol=h", "pol=v", "msys=dvbs",
+        "src=1", "src=2", "src=4", "fe=1", "fe=2", "fe=3", "freq=11538", "freq=12750.01", "pol=h", "pol=v", "msys=dvbs",
         "msys=dvbs2", "mtype=qpsk", "mtype=8psk", "plts=on", "plts=off", "ro=0.35", "ro=0.20", "sr=22000",
         "fec=56", "fec=910", "pids=all", "pids=none", "pids=0,17,611", "addpids=1,2,3", "delpids=17", "x=1"
     };
@@ -46,7 +46,7 @@ static void chance_path(char *path, size_t size)
     }
 }
 
-/* A request of a client's kind, mostly; its length. */
+/* A request of a client's kind, mostly; its length. Its session is mostly at a low place, as those that are open. */
 static size_t chance_request(char *request, size_t size)
 {
     static const char *const methods[] = {"SETUP", "SETUP", "SETUP", "PLAY", "PLAY", "TEARDOWN", "OPTIONS"};
@@ -54,16 +54,28 @@ static size_t chance_request(char *request, size_t size)
         "", "", "", "", "Accept: x\r\n", "Require: y\r\n", "X-z:\r\n", " f\r\n"
     };
     char path[1024], session[64] = "";
+    uint32_t places = chance(3) == 0 ? PLAIN_SESSIONS : 3;
     chance_path(path, sizeof path);
     if (chance(2) == 0)
         snprintf(session, sizeof session, "Session: %08lX\r\n",
-                 (unsigned long)box.sessions[chance(PLAIN_SESSIONS)].number);
+                 (unsigned long)box.sessions[chance(places)].number);
     int length = snprintf(request, size, "%s rtsp://h%s RTSP/1.0\r\nCSeq: %lu\r\n%s%s%s\r\n", PICK(methods),
                           path, (unsigned long)chance(UINT32_MAX), session, chance(10) != 0 ? TRANSPORT : "",
                           PICK(headers));
     for (uint32_t i = chance(8) == 0 ? 1 + chance(4) : 0; i > 0; i--)
         request[chance((uint32_t)length)] = (char)chance(256);
     return chance(30) == 0 ? chance((uint32_t)length) : (size_t)length;
+}
+
+/* A box of chance; every other time some of its frontends do not reach all four sources. */
+static struct plain_settings chance_settings(void)
+{
+    uint16_t frontends = (uint16_t)(1 + chance(8));
+    struct plain_settings settings = all_reaching(frontends, 1024 + 16 * chance(8));
+    if (chance(2) == 0)
+        for (size_t i = 0; i < settings.frontends; i++)
+            settings.reach[i] = (uint8_t)(1 + chance(15));
+    return settings;
 }
 
 /* Whatever comes, what send_bytes and tick check holds, and every status but 414 and 505 comes up. */
@@ -75,7 +87,7 @@ void test_evening(void)
         char request[REQUEST_ROOM];
         uint32_t count;
         if (round % 3000 == 0)
-            fresh(1 + chance(8), 1024 + 16 * chance(8));
+            fresh_of(chance_settings());
         HERE;
         now = box.clock + (chance(5) == 0 ? chance(30) : 0) - (box.clock > 5 && chance(5) == 0 ? 5 : 0);
         draw = chance(4) == 0 ? UINT32_MAX - chance(3) : chance(40);

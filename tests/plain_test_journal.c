@@ -94,27 +94,26 @@ static void test_making(void)
 {
     struct plain_box made, before;
     memset(&before, FILL, sizeof before);
-    for (uint32_t frontends = 0; frontends <= 10; frontends++)
+    for (uint16_t frontends = 0; frontends <= 10; frontends++)
         for (uint32_t size = 1000; size <= 1060; size++) {
             bool good = frontends >= 1 && frontends <= 8 && size >= 1024 && size % 16 == 0;
             made = before;
-            CHECK(plain_make(&made, frontends, size) == (good ? 0 : 6));
+            CHECK(plain_make(&made, all_reaching(frontends, size)) == (good ? 0 : 6));
             if (!good) {
                 CHECK(memcmp(&made, &before, sizeof made) == 0);
                 continue;
             }
             CHECK(made.settings.frontends == frontends && made.settings.size == size);
-            made.settings.frontends = 0;
-            made.settings.size = 0;
+            memset(&made.settings, 0, sizeof made.settings);
             CHECK(is_zero(&made, sizeof made));
         }
-    CHECK(plain_make(&made, 8, 65536) == 0);
-    CHECK(plain_make(&made, 8, 65552) == 6);
-    CHECK(plain_make(&made, 8, 65535) == 6);
-    CHECK(plain_make(&made, 8, 0) == 6);
-    CHECK(plain_make(&made, 65537, 1024) == 6);
-    CHECK(plain_make(&made, UINT32_MAX, 1024) == 6);
-    CHECK(plain_make(&made, 1, UINT32_MAX - 15) == 6);
+    CHECK(plain_make(&made, all_reaching(8, 65536)) == 0);
+    CHECK(plain_make(&made, all_reaching(8, 65552)) == 6);
+    CHECK(plain_make(&made, all_reaching(8, 65535)) == 6);
+    CHECK(plain_make(&made, all_reaching(8, 0)) == 6);
+    CHECK(plain_make(&made, all_reaching(257, 1024)) == 6);
+    CHECK(plain_make(&made, all_reaching(UINT16_MAX, 1024)) == 6);
+    CHECK(plain_make(&made, all_reaching(1, UINT32_MAX - 15)) == 6);
 }
 
 /* Refusals 2 and 3 in number order; everything stays. */

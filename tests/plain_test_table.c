@@ -1,5 +1,6 @@
 /*
- * EDGES.md section 1: which tables are well formed, and that every call refuses the others with 1.
+ * EDGES.md section 1, and order 1 of document 02: which tables are well formed, and that every call refuses the
+ * others with 1.
  */
 #include "plain_test.h"
 
@@ -57,9 +58,9 @@ static void test_limits_well_formed(void)
     ILL(box.settings.frontends = 0);
     ILL(box.settings.frontends = 9);
     ILL(box.settings.frontends = 0xFFFF);
-    ILL(box.settings.frontends = 1);
-    WELL(box.settings.frontends = 2);
-    WELL(box.settings.frontends = 8);
+    ILL(box.settings = all_reaching(1, 1024));
+    WELL(box.settings = all_reaching(2, 1024));
+    WELL(box.settings = all_reaching(8, 1024));
     ILL(box.settings.size = 0);
     ILL(box.settings.size = 1008);
     ILL(box.settings.size = 1025);
@@ -77,6 +78,37 @@ static void test_limits_well_formed(void)
     WELL(box.clock = 100000);
     WELL(box.clock = UINT32_MAX);
     WELL(box.sequence = 12345);
+}
+
+/* No set up to F is empty or has a source beyond 4, zeros stand above F, and each stream's frontend reaches its src. */
+static void test_reach_well_formed(void)
+{
+    uint8_t *reach = box.settings.reach;
+    for (unsigned set = 0; set < 256; set++) {
+        bool good = set >= 1 && set <= 15;
+        base();
+        reach[2] = (uint8_t)set;
+        CHECK(good ? well_formed() : all_refuse());
+        base();
+        reach[3] = (uint8_t)set;
+        CHECK(set == 0 ? well_formed() : all_refuse());
+    }
+    ILL(reach[0] = 0);
+    ILL(reach[7] = 1);
+    ILL(box.settings.frontends = 2);
+    ILL(box.settings.frontends = 4);
+    WELL(box.settings.spare = 0xFFFF);
+    WELL((reach[1] = 1, reach[0] = 2));
+    WELL(reach[1] = 9);
+    ILL(reach[1] = 2);
+    ILL(reach[1] = 14);
+    ILL(reach[0] = 1);
+    ILL(reach[0] = 13);
+    ILL((reach[1] = 3, box.streams[0].values.src = 3));
+    WELL((reach[1] = 3, box.streams[0].values.src = 2));
+    WELL((reach[1] = 8, box.streams[0].values.src = 4));
+    ILL((reach[1] = 12, box.streams[0].frontend = 3, reach[2] = 2));
+    WELL((reach[1] = 12, box.streams[0].frontend = 3, reach[2] = 1));
 }
 
 static void test_sessions_well_formed(void)
@@ -248,6 +280,7 @@ static void test_places_zeroed(void)
 void test_table(void)
 {
     test_limits_well_formed();
+    test_reach_well_formed();
     test_sessions_well_formed();
     test_values_well_formed();
     test_streams_well_formed();

@@ -83,7 +83,7 @@ static void merge_values(struct plain_values *values, const struct plain_values 
     replace(&values->fec, given->fec);
 }
 
-/* Merges the query into a stream: steps 16 and 17. */
+/* Merges the query into a stream: step 16, and the PIDs of step 17. */
 static enum status merge(struct plain_stream *stream, const struct reading *reading)
 {
     merge_values(&stream->values, &reading->values);
@@ -134,15 +134,35 @@ static bool frontend_held(const struct plain_box *box, uint32_t frontend)
     return plain_stream_place(box, frontend) < PLAIN_STREAMS;
 }
 
-/* The frontend for a new stream: fe, or the lowest free one if fe is 0; 0 if it cannot be had. */
-static uint32_t choose_frontend(const struct plain_box *box, uint32_t fe)
+/* How many sources a frontend reaches. */
+static unsigned count_sources(const struct plain_box *box, uint32_t frontend)
 {
+    unsigned count = 0;
+    for (uint32_t src = 1; src <= PLAIN_SOURCES; src++)
+        count += plain_reaches(box, frontend, src);
+    return count;
+}
+
+/* Is a frontend free, and does it reach the src? */
+static bool can_serve(const struct plain_box *box, uint32_t frontend, uint32_t src)
+{
+    return !frontend_held(box, frontend) && plain_reaches(box, frontend, src);
+}
+
+/*
+ * The frontend for a new stream: fe or, if fe is 0, of the free ones that reach its src the one reaching the fewest
+ * sources, ties to the lowest number; 0 if it cannot be had.
+ */
+static uint32_t choose_frontend(const struct plain_box *box, uint32_t fe, uint32_t src)
+{
+    uint32_t chosen = 0;
     if (fe != 0)
-        return frontend_held(box, fe) ? 0 : fe;
+        return can_serve(box, fe, src) ? fe : 0;
     for (uint32_t frontend = 1; frontend <= box->settings.frontends; frontend++)
-        if (!frontend_held(box, frontend))
-            return frontend;
-    return 0;
+        if (can_serve(box, frontend, src)
+            && (chosen == 0 || count_sources(box, frontend) < count_sources(box, chosen)))
+            chosen = frontend;
+    return chosen;
 }
 
 /* The first non-zero number not open, counting up from the draw. */
@@ -194,6 +214,13 @@ static bool not_the_owners_query(const struct turn *turn)
     return turn->reading->query && turn->stream != NULL && !owner;
 }
 
+/* Step 17: a later src that the held frontend does not reach. A new stream's src is judged in step 18. */
+static bool out_of_reach(const struct turn *turn)
+{
+    uint32_t src = turn->reading->values.src;
+    return turn->stream != NULL && src != 0 && !plain_reaches(turn->box, turn->stream->frontend, src);
+}
+
 /* Steps 16 and 17, into a copy. A new stream has src 1 and no PIDs. */
 static enum status judge_query(struct turn *turn)
 {
@@ -203,16 +230,23 @@ static enum status judge_query(struct turn *turn)
         turn->merged = *turn->stream;
     else
         turn->merged = (struct plain_stream){.values = {.src = 1}};
-    return merge(&turn->merged, turn->reading);
+    enum status status = merge(&turn->merged, turn->reading);
+    return status == STATUS_OK && out_of_reach(turn) ? STATUS_UNAVAILABLE : status;
 }
 
-/* Step 18: does an opening find a place, a frontend, and room for its record and for every closing? */
+/* The frontend that a new stream takes, 0 if there is none for it. */
+static uint32_t frontend_for(const struct turn *turn)
+{
+    return choose_frontend(turn->box, turn->reading->fe, turn->merged.values.src);
+}
+
+/* Step 18: does an opening find a place, a new stream a frontend, and its record and every closing room? */
 static bool can_open(const struct turn *turn)
 {
     struct plain_box *box = turn->box;
     if (free_session(box) == NULL)
         return false;
-    if (turn->stream == NULL && choose_frontend(box, turn->reading->fe) == 0)
+    if (turn->stream == NULL && frontend_for(turn) == 0)
         return false;
     return box->held + PLAIN_RECORD_BYTES * (plain_count_open(box) + 2) <= box->settings.size;
 }
@@ -251,7 +285,7 @@ static uint8_t open_stream(struct turn *turn)
 {
     struct plain_box *box = turn->box;
     size_t place = plain_stream_place(box, 0);
-    turn->merged.frontend = (uint8_t)choose_frontend(box, turn->reading->fe);
+    turn->merged.frontend = (uint8_t)frontend_for(turn);
     box->streams[place] = turn->merged;
     return (uint8_t)(place + 1);
 }

@@ -16,7 +16,7 @@ void steps_start(void);
 unsigned long steps_stop(void);
 
 /* With prices, a call that leaves the program itself, to the C library's memcpy or memset, counts so many and one for so many of its bytes (103
- * for the box's 1,492), whatever it executes: that differs from processor to processor. Without, as at first, it counts what it executes. */
+ * for the box's 1,500), whatever it executes: that differs from processor to processor. Without, as at first, it counts what it executes. */
 enum { STEPS_PRICE = 10, STEPS_BYTES = 16 };
 void steps_set_prices(bool on);
 

@@ -159,10 +159,10 @@ static void expect_end(int status, const char *line)
     CHECK(end_of_host() == status);
 }
 
-void expect_refused(const char *host, const char *const *words, const char *line)
+void expect_refused(const char *host, const char *const *words, int status, const char *line)
 {
     launch(host, words);
-    expect_end(1, line);
+    expect_end(status, line);
 }
 
 void stop(int status, const char *line)

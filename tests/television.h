@@ -18,9 +18,9 @@ void check(bool holds, const char *what, const char *file, int line);
 /* Ends the test, and the host, after so many seconds. */
 void limit(unsigned seconds);
 
-/* The host. words are its options, NULL after the last. line is what it must say then, NULL for nothing. */
+/* The host. words are its options, NULL after the last. line is what it must say then, NULL for nothing; status is what it ends with. */
 void start(const char *host, const char *const *words, const char *line);
-void expect_refused(const char *host, const char *const *words, const char *line);
+void expect_refused(const char *host, const char *const *words, int status, const char *line);
 void stop(int status, const char *line);
 void freeze(void);                      /* it sees nothing until it thaws, and then everything at once */
 void thaw(void);

@@ -16,7 +16,7 @@ use Rattle.stream.specs.Streams.{noStream, pastStream}
 use Rattle.stream.specs.declared.Stream.{Stream}
 use Rattle.table.specs.Table.{noSession, sessionAt, withStream, isOn}
 use Rattle.table.proofs.Ids.{streamIn}
-use Rattle.table.specs.Formed.{areSizes, wellFormed}
+use Rattle.table.specs.Formed.{areSizes, areSettings, wellFormed}
 use Rattle.table.specs.declared.Settings.{Settings}
 use Rattle.table.specs.declared.SatBox.{SatBox}
 use Rattle.table.proofs.Rules.{Seats, Rows, AreProper, WellFormed, formed, formed-back}
@@ -43,17 +43,17 @@ whole-formed t w = formed-back t (w .formed)
 -- F is at most 8, and C at most 65,536
 pub frontends-few : (t : SatBox) → Whole t → t .settings .frontends ≤ 8
 frontends-few t w =
-    leb-true _ _ (and-both (leb 1 (t .settings .frontends)) _ (and-both (isBetween 1 8 (t .settings .frontends)) _ (w .formed .sizes) .0) .1)
+    leb-true _ _ (and-both (leb 1 (t .settings .frontends)) _ (and-both (isBetween 1 8 (t .settings .frontends)) _ (and-both (areSizes (t .settings)) _ (w .formed .settings) .0) .0) .1)
 
-size-small : (s : Settings) → areSizes s ≡ true → s .size ≤ 65536
+size-small : (s : Settings) → areSettings s ≡ true → s .size ≤ 65536
 size-small s e =
-    leb-true _ _ (and-both (leb 1024 (s .size)) _ (and-both (isBetween 1024 65536 (s .size)) _ (and-both (isBetween 1 8 (s .frontends)) _ e .1) .0) .1)
+    leb-true _ _ (and-both (leb 1024 (s .size)) _ (and-both (isBetween 1024 65536 (s .size)) _ (and-both (isBetween 1 8 (s .frontends)) _ (and-both (areSizes s) _ e .0) .1) .0) .1)
 
 pub whole-roomy : (t : SatBox) → Whole t → Roomy t
 whole-roomy t w =
     record {
       bound = omega (arith, w .formed .fits .bound);
-      small = size-small (t .settings) (w .formed .sizes);
+      small = size-small (t .settings) (w .formed .settings);
       places = w .places;
       rows = w .rows;
     }
@@ -70,14 +70,14 @@ open-id t w i some =
     (n .0, omega (arith, n .1, w .rows))
 
 -- the rules of the journal and the settings come with what every operation keeps
-pub whole-after : (t : SatBox) (d : Did) → Whole t → Fine t d → Seats (d .satbox .sessions) (pastStream ∷ d .satbox .streams) → Rows (t .settings .frontends) (d .satbox .streams) → AreProper (t .clock) (d .satbox .sessions) → Whole (d .satbox)
+pub whole-after : (t : SatBox) (d : Did) → Whole t → Fine t d → Seats (d .satbox .sessions) (pastStream ∷ d .satbox .streams) → Rows (t .settings) (d .satbox .streams) → AreProper (t .clock) (d .satbox .sessions) → Whole (d .satbox)
 whole-after t d w z seats rows proper =
     record {
       formed =
           record {
-            sizes = subst (λ s. areSizes s ≡ true) (sym (z .settings)) (w .formed .sizes);
+            settings = subst (λ s. areSettings s ≡ true) (sym (z .settings)) (w .formed .settings);
             seats = seats;
-            rows = subst (λ (s : Settings). Rows (s .frontends) (d .satbox .streams)) (sym (z .settings)) rows;
+            rows = subst (λ (s : Settings). Rows s (d .satbox .streams)) (sym (z .settings)) rows;
             proper = rw (z .clock) proper;
             fits = record { whole = omega (arith, z .held, w .formed .fits .whole); bound = z .bound (w .formed .fits .bound) };
           };
@@ -141,7 +141,7 @@ module _ (cause i : ℕ) (t : SatBox) (h : Closable t i) (w : Whole t) where
     owner-whole =
         whole-after t (closing cause i t) w (closing-fine cause i t h)
         (rw (owner-sessions, owner-streams, by-id (t .streams) (sessionAt t i .stream) noStream (seated-id (t .sessions) (t .streams) (w .formed .seats) i (h .some))) (seats-emptied (t .sessions) (pastStream ∷ t .streams) (w .formed .seats) (sessionAt t i .stream)))
-        (rw owner-streams (rows-freed (t .settings .frontends) (t .streams) (w .formed .rows) (sessionAt t i .stream)))
+        (rw owner-streams (rows-freed (t .settings) (t .streams) (w .formed .rows) (sessionAt t i .stream)))
         (rw owner-sessions (proper-cleared (t .clock) (t .sessions) (w .formed .proper) (sessionAt t i .stream)))
 
   closing-by : Same (sessionAt t i .owner) 0 → Whole (closing cause i t .satbox)
@@ -170,7 +170,7 @@ clock-whole clock t w =
     record {
       formed =
           record {
-            sizes = w .formed .sizes;
+            settings = w .formed .settings;
             seats = w .formed .seats;
             rows = w .formed .rows;
             proper = proper-later (t .clock) (t .sessions) (w .formed .proper) (max (t .clock) clock) (omega arith);

@@ -8,7 +8,7 @@ pub use records::Noted;
 pub use turns::Ordered;
 pub use turns::Reply;
 ghost use mathlib.Core.Path.{_≡_};
-ghost use Rattle.table.specs.Made.{settingsOf, madeOf, numberIn};
+ghost use Rattle.table.specs.Made.{madeOf, numberIn};
 ghost use Rattle.satbox.specs.Calls.{ifDone, ticked, tickedJournal, collected, collectedInto, replied, repliedInto, repliedJournal};
 ghost use Rattle.orders.specs.Orders.{orderOf};
 ghost use Rattle.journal.specs.Records.{readAt};
@@ -16,19 +16,20 @@ ghost use Rattle.door.specs.Turns.{readFrom, writeReply, replyOf, ordere
 ghost use Rattle.door.specs.Version.{versionNumber};
 use journal::Record;
 use table::SatBox;
+use table::Settings;
 
 // The two numbers of the file VERSION.
 const FIRST: u32 = 1;
 
-const SECOND: u32 = 0;
+const SECOND: u32 = 1;
 
 // Makes a fresh box of the one that is lent; where that is refused, it stays.
 #[no_mangle]
-pub extern "C" fn satbox_make(t: &mut SatBox, frontends: u32, size: u32) -> u32
-    ensures { λ r. ⌜ (r ≡ numberIn (madeOf (settingsOf frontends size) .outcome))
-        × (now (t .exit) ≡ ifDone (madeOf (settingsOf frontends size) .outcome) (madeOf (settingsOf frontends size) .satbox) (now (t .entry))) ⌝ }
+pub extern "C" fn satbox_make(t: &mut SatBox, settings: Settings) -> u32
+    ensures { λ r. ⌜ (r ≡ numberIn (madeOf settings .outcome))
+        × (now (t .exit) ≡ ifDone (madeOf settings .outcome) (madeOf settings .satbox) (now (t .entry))) ⌝ }
 {
-    let s = turns::make(*t, frontends, size);
+    let s = turns::make(*t, settings);
     *t = s.satbox;
     s.refusal
 }

@@ -1,8 +1,6 @@
 // The calls by value, with what C gets of each.
 ghost use mathlib.Core.Path.{_≡_};
-ghost use mathlib.Core.Bool.{cond};
-ghost use lib.Dec.{ltb};
-ghost use Rattle.table.specs.Made.{settingsOf, madeOf, numberIn};
+ghost use Rattle.table.specs.Made.{madeOf, numberIn};
 ghost use Rattle.satbox.specs.Calls.{ifDone, ticked, tickedJournal, collected, collectedInto, replied, repliedInto, repliedJournal};
 ghost use Rattle.orders.specs.Orders.{orderOf};
 ghost use Rattle.door.specs.Turns.{replyOf, orderedAs};
@@ -75,25 +73,11 @@ pub(crate) fn request(
     Replying { reply, satbox: u }
 }
 
-// A number of frontends in sixteen bits; no box has more, nor 0.
-fn few(frontends: u32) -> u16
-    ensures { λ r. ⌜ r ≡ cond (ltb 65535 frontends) 0 frontends ⌝ }
+pub(crate) fn make(t: SatBox, settings: Settings) -> Refusing
+    ensures { λ r. ⌜ (r .refusal ≡ numberIn (madeOf settings .outcome))
+        × (r .satbox ≡ ifDone (madeOf settings .outcome) (madeOf settings .satbox) t) ⌝ }
 {
-    if 65535 < frontends {
-        return 0;
-    }
-    frontends as u16
-}
-
-pub(crate) fn make(t: SatBox, frontends: u32, size: u32) -> Refusing
-    ensures { λ r. ⌜ (r .refusal ≡ numberIn (madeOf (settingsOf frontends size) .outcome))
-        × (r .satbox ≡ ifDone (madeOf (settingsOf frontends size) .outcome) (madeOf (settingsOf frontends size) .satbox) t) ⌝ }
-{
-    let made = SatBox::fresh(Settings {
-        size,
-        frontends: few(frontends),
-        spare: 0,
-    });
+    let made = SatBox::fresh(settings);
     let outcome = made.outcome;
     let u = made.satbox;
     let refusal = number_in(outcome);

@@ -9,13 +9,26 @@ use orders::Ordered;
 use table::SatBox;
 use table::Settings;
 
-// `box F C`
+// The sets that a line gives from its third number on; all four sources where it gives none.
+fn sets(line: &[u8]) -> [u8; 8] {
+    let mut reach = [0u8; 8];
+    let mut i = 0;
+    while i < 8 {
+        reach[i] = fields::small(words::number_or(line, i + 3, 15));
+        i += 1;
+    }
+    reach
+}
+
+// `box F C`, and the set of sources of each frontend from the first on where it does not reach all four
 pub(crate) fn make(journal: &mut [u8], line: &[u8]) -> SatBox {
     let frontends = fields::medium(words::number(line, 1));
+    let reach = sets(line);
     let made = SatBox::fresh(Settings {
         size: words::number(line, 2),
         frontends,
         spare: 0,
+        reach,
     });
     let t = made.satbox;
     let outcome = made.outcome;

@@ -5,8 +5,9 @@ use stream::Stream;
 use stream::Values;
 use table::SatBox;
 use table::Session;
+use table::Settings;
 
-fn small(v: u32) -> u8 {
+pub(crate) fn small(v: u32) -> u8 {
     if v < 255 { v as u8 } else { 255 }
 }
 
@@ -67,7 +68,15 @@ fn in_stream(m: Stream, field: usize, v: u32, entry: usize) -> Stream {
     r
 }
 
-fn in_box(t: SatBox, field: usize, v: u32) -> SatBox {
+fn in_reach(settings: Settings, place: usize, v: u32) -> Settings {
+    let mut r = settings;
+    if place < 8 {
+        r.reach[place] = small(v);
+    }
+    r
+}
+
+fn in_box(t: SatBox, field: usize, place: usize, v: u32) -> SatBox {
     let mut u = t;
     match field {
         20 => u.settings.size = v,
@@ -77,6 +86,10 @@ fn in_box(t: SatBox, field: usize, v: u32) -> SatBox {
         24 => {
             let frontends = medium(v);
             u.settings.frontends = frontends;
+        }
+        25 => {
+            let settings = in_reach(t.settings, place, v);
+            u.settings = settings;
         }
         _ => {}
     }
@@ -102,7 +115,7 @@ fn set_stream(t: SatBox, place: usize, field: usize, v: u32, entry: usize) -> Sa
 // Sets what a line names: the field, the place of the session or stream, the value, and of a PID its place in the list.
 pub(crate) fn set(t: SatBox, line: &[u8]) -> SatBox {
     let field = script::place_among(
-        b"number address last port stream owner playing src freq pol msys mtype plts ro sr fec count frontend all pids size held clock sequence frontends",
+        b"number address last port stream owner playing src freq pol msys mtype plts ro sr fec count frontend all pids size held clock sequence frontends reach",
         words::word(line, 1),
         Case::Counts,
     );
@@ -115,5 +128,5 @@ pub(crate) fn set(t: SatBox, line: &[u8]) -> SatBox {
     if field < 20 {
         return set_stream(t, place, field, v, entry);
     }
-    in_box(t, field, v)
+    in_box(t, field, place, v)
 }

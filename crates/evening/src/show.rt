@@ -6,6 +6,7 @@ use table::Outcome;
 use table::Refusal;
 use table::SatBox;
 use table::Session;
+use table::Settings;
 
 pub(crate) fn refused(label: &[u8], why: Refusal) {
     out::text(label);
@@ -125,9 +126,21 @@ fn streams(t: SatBox) {
     }
 }
 
+// The set of each frontend, by its place.
+fn reach(settings: Settings) {
+    let reach = settings.reach;
+    out::text(b" reach");
+    let mut i = 0;
+    while i < 8 {
+        out::number(b" ", reach[i] as u32);
+        i += 1;
+    }
+}
+
 pub(crate) fn table(t: SatBox) {
     out::number(b"  frontends ", t.settings.frontends as u32);
     out::number(b" size ", t.settings.size);
+    reach(t.settings);
     if formed::is_well(formed::standing_of(t)) {
         out::text(b", well formed");
     } else {

@@ -1,69 +1,254 @@
--- The lowest free frontend: the search for it, and that what is found is free. Assumes nothing.
-use mathlib.Core.Path.{_≡_, sym, _∙_, ap, subst}
-use mathlib.Core.Bool.{Bool, true, false, cond}
-use mathlib.Core.List.{List}
-use Prim.Native.Nat.{ℕ, zero, suc, _+_, _-_, _≤_, _<_}
+-- The frontend that a new stream takes: the search for it, and what is found. Assumes nothing.
+use mathlib.Core.Path.{_≡_, refl, sym, _∙_, ap}
+use mathlib.Core.Bool.{Bool, true, false, not, cond, _&&_, _||_, or-true, and-false}
+use mathlib.Core.List.{List, [], _∷_, map}
+use Prim.Native.Nat.{ℕ, zero, suc, _+_, _-_, _/_, _^_, _≤_, _<_}
+use native.Mathlib.Nat.{zero-div}
 use native.Mathlib.Omega.{arith}
-use Rattle.scan.proofs.Bools.{Case, case, is, isnt}
+use lib.Dec.{eqb, leb}
+use lib.ListN.{length, getD, set, drop, length-set, List·getD-eq-default}
+use lib.Seq.{getD-set-other, getD-set-same}
+use borrow.Author.Tests.{eq-eqb, ne-eqb, eqb-true, eqb-false, leb-true, leb-false, le-leb, lt-leb}
+use Rattle.scan.specs.Lists.{isBetween}
+use Rattle.scan.proofs.Bools.{never, and-both, both, Case, is, isnt, case, Same, same, other, sames}
+use Rattle.scan.proofs.Loops.{turn, end}
 use Rattle.stream.specs.declared.Stream.{Stream}
 use Rattle.table.specs.Table.{isAmong}
+use Rattle.table.specs.Reach.{has, sizeOf, setOf}
+use Rattle.table.specs.declared.Settings.{Settings}
+use Rattle.table.specs.declared.SatBox.{SatBox}
 use Rattle.table.proofs.Rules.{frontendsOf}
-use Rattle.finding.specs.Finding.{firstFree, isHeld, lowestFrontend}
+use Rattle.finding.specs.Finding.{isHeld, canFeed, sizeAt, fewestFrom, choice}
 
--- the lowest of the `more` frontends after n that is not held; the one after them where all are
-abbrev lowestAfter : ℕ → ℕ → List Stream → ℕ
-lowestAfter more n ms = firstFree (λ f. isHeld f ms) suc more (suc n)
+-- WHAT THE CHOICE IS: free, reaching the source; no other such reaches fewer, and none that reaches as few has a lower number
+pub record IsChoice (t : SatBox) (source f : ℕ) : Type 0 where
+  pub feeds : canFeed t source f ≡ true
+  pub fewest : (g : ℕ) → canFeed t source g ≡ true → sizeAt t f ≤ sizeAt t g
+  pub lowest : (g : ℕ) → canFeed t source g ≡ true → sizeAt t g ≡ sizeAt t f → f ≤ g
 
--- the frontends below f are among those held, whichever streams hold them
-pub record Ranging (held : List ℕ) (last f : ℕ) : Type 0 where
-  pub low : 1 ≤ f
-  pub high : f ≤ last + 1
-  pub same : (ms : List Stream) → held ≡ frontendsOf ms → lowestAfter (last + 1 - f) (f - 1) ms ≡ lowestFrontend last ms
+-- it is so among the `more` frontends from f on, or it is 0 and none of them can feed the stream
+record Chosen (t : SatBox) (source more f g : ℕ) : Type 0 where
+  can : (g ≡ 0 → ⊥) → (canFeed t source g ≡ true) × (f ≤ g)
+  none : g ≡ 0 → (h : ℕ) → f ≤ h → h < f + more → canFeed t source h ≡ false
+  fewest : (h : ℕ) → f ≤ h → h < f + more → canFeed t source h ≡ true → sizeAt t g ≤ sizeAt t h
+  lowest : (h : ℕ) → f ≤ h → h < f + more → canFeed t source h ≡ true → sizeAt t h ≡ sizeAt t g → g ≤ h
 
-pub ranging-start : (held : List ℕ) (last : ℕ) → Ranging held last 1
-unfolding lowestFrontend
-ranging-start held last =
-    let z : last + 1 - 1 ≡ last = omega arith in
-    record { low = omega arith; high = omega arith; same = λ ms e. rw z }
+module _ (t : SatBox) (source : ℕ) where
+  -- a frontend before those that were looked at is taken, or it is not
+  taken : (more f g : ℕ) → 1 ≤ f → Chosen t source more (suc f) g → canFeed t source f && (eqb g 0 || leb (sizeAt t f) (sizeAt t g)) ≡ true → Chosen t source (suc more) f f
+  taken more f g low r y =
+      let a = and-both (canFeed t source f) _ y in
+      record {
+        can = λ _. (a .0, omega arith);
+        none = λ z. absurd (omega arith);
+        fewest = λ h l u e. by h l u e (sames f h) (sames g 0) (a .1);
+        lowest = λ h l u e z. l;
+      }
+    where
+      by : (h : ℕ) → f ≤ h → h < f + suc more → canFeed t source h ≡ true → Same f h → Same g 0 → eqb g 0 || leb (sizeAt t f) (sizeAt t g) ≡ true → sizeAt t f ≤ sizeAt t h
+      by h l u e (same q) c k = rw q (omega arith)
+      by h l u e (other q) (same z) k = never e (r .none z h (omega arith) (omega arith))
+      by h l u e (other q) (other z) k =
+          omega (arith, leb-true (sizeAt t f) (sizeAt t g) (rw (ne-eqb g 0 z) at k), r .fewest h (omega arith) (omega arith) e)
 
-module _ {held : List ℕ} {last f : ℕ} (r : Ranging held last f) where
-  pub ranging-end : last < f → (ms : List Stream) → held ≡ frontendsOf ms → f ≡ lowestFrontend last ms
-  ranging-end h ms e =
-      let z : last + 1 - f ≡ 0 = omega arith in
-      let s : f ≡ suc (f - 1) = omega (arith, r .low) in
-      s ∙ rw z at (r .same ms e)
+  passed : (more f g : ℕ) → Chosen t source more (suc f) g → canFeed t source f && (eqb g 0 || leb (sizeAt t f) (sizeAt t g)) ≡ false → Chosen t source (suc more) f g
+  passed more f g r n =
+      record {
+        can = λ z. let c = r .can z in (c .0, omega (arith, c .1));
+        none = λ z h l u. empty z h l u (sames f h) (case (canFeed t source f));
+        fewest = λ h l u e. by h l u e (sames f h);
+        lowest = λ h l u e z. low h l u e z (sames f h);
+      }
+    where
+      empty : g ≡ 0 → (h : ℕ) → f ≤ h → h < f + suc more → Same f h → Case (canFeed t source f) → canFeed t source h ≡ false
+      empty z h l u (same q) (is y) = never (rw (y, eq-eqb g 0 z)) n
+      empty z h l u (same q) (isnt y) = rw (← q) y
+      empty z h l u (other q) c = r .none z h (omega arith) (omega arith)
 
-  module _ {t : Bool} (h : f ≤ last) (e : t ≡ isAmong f held) where
-    step : (ms : List Stream) → held ≡ frontendsOf ms → lowestAfter (last + 1 - f) (f - 1) ms ≡ cond t (lowestAfter (last + 1 - (f + 1)) (f + 1 - 1) ms) f
-    step ms q =
-        let z : last + 1 - f ≡ suc (last + 1 - (f + 1)) = omega arith in
-        let s : suc (f - 1) ≡ f = omega (arith, r .low) in
-        let u : f + 1 - 1 ≡ f = omega arith in
-        rw (z, u, s, e ∙ ap (isAmong f) q)
+      more-of : canFeed t source f ≡ true → sizeAt t g < sizeAt t f
+      more-of y = smaller (case (leb (sizeAt t f) (sizeAt t g)))
+        where
+          smaller : Case (leb (sizeAt t f) (sizeAt t g)) → sizeAt t g < sizeAt t f
+          smaller (is z) = never (rw (y, z) (or-true (eqb g 0))) n
+          smaller (isnt z) = leb-false _ _ z
 
-    pub ranging-more : t ≡ true → Ranging held last (f + 1)
-    ranging-more y = record { low = omega arith; high = omega arith; same = λ ms q. sym (step ms q ∙ rw y) ∙ r .same ms q }
+      by : (h : ℕ) → f ≤ h → h < f + suc more → canFeed t source h ≡ true → Same f h → sizeAt t g ≤ sizeAt t h
+      by h l u e (same q) = rw (← q) (omega (arith, more-of (rw q e)))
+      by h l u e (other q) = r .fewest h (omega arith) (omega arith) e
 
-    pub ranging-hit : t ≡ false → (ms : List Stream) → held ≡ frontendsOf ms → f ≡ lowestFrontend last ms
-    ranging-hit n ms q = sym (step ms q ∙ rw n) ∙ r .same ms q
+      low : (h : ℕ) → f ≤ h → h < f + suc more → canFeed t source h ≡ true → sizeAt t h ≡ sizeAt t g → Same f h → g ≤ h
+      low h l u e z (same q) = absurd (omega (arith, more-of (rw q e), ap (sizeAt t) q))
+      low h l u e z (other q) = r .lowest h (omega arith) (omega arith) e z
 
--- a frontend, and not held, if it is one of the box's
-pub record FreeUpTo (last f : ℕ) (ms : List Stream) : Type 0 where
-  pub low : 1 ≤ f
-  pub high : f ≤ last + 1
-  pub free : f ≤ last → isHeld f ms ≡ false
+  chosen : (more f : ℕ) → 1 ≤ f → Chosen t source more f (fewestFrom t source more f)
+  chosen zero f low =
+      record {
+        can = λ z. absurd (z refl);
+        none = λ z h l u. absurd (omega arith);
+        fewest = λ h l u e. absurd (omega arith);
+        lowest = λ h l u e z. absurd (omega arith);
+      }
+  chosen (suc more) f low = by (case _) (chosen more (suc f) (omega arith))
+    where
+      by : Case (canFeed t source f && (eqb (fewestFrom t source more (suc f)) 0 || leb (sizeAt t f) (sizeAt t (fewestFrom t source more (suc f))))) → Chosen t source more (suc f) (fewestFrom t source more (suc f)) → Chosen t source (suc more) f (fewestFrom t source (suc more) f)
+      by (is y) r = rw y (taken more f _ low r y)
+      by (isnt n) r = rw n (passed more f _ r n)
 
-after-free : (more n : ℕ) (ms : List Stream) → FreeUpTo (n + more) (lowestAfter more n ms) ms
-after-free zero n ms = record { low = omega arith; high = omega arith; free = λ h. absurd (omega arith) }
-after-free (suc more) n ms = by (case (isHeld (suc n) ms)) (after-free more (suc n) ms)
-  where
-    by : Case (isHeld (suc n) ms) → FreeUpTo (suc n + more) (lowestAfter more (suc n) ms) ms → FreeUpTo (n + suc more) (lowestAfter (suc more) n ms) ms
-    by (is y) r = rw y (record { low = r .low; high = omega (arith, r .high); free = λ h. r .free (omega arith) })
-    by (isnt z) r = rw z (record { low = omega arith; high = omega arith; free = λ h. z })
+  -- THE CHOICE IS THAT ONE, where there is one, and 0 where there is none
+  module _ (few : t .settings .frontends ≤ 8) where
+    within : (g : ℕ) → canFeed t source g ≡ true → (1 ≤ g) × (g < 9)
+    within g e =
+        let b = and-both (leb 1 g) _ (and-both (isBetween 1 (t .settings .frontends) g) _ e .0) in
+        (leb-true _ _ (b .0), omega (arith, leb-true g (t .settings .frontends) (b .1)))
 
--- "the lowest free frontend" is one to F that is not held, or F + 1
-pub lowest-free : (last : ℕ) (ms : List Stream) → FreeUpTo last (lowestFrontend last ms) ms
-unfolding lowestFrontend
-lowest-free last ms =
-    let z : 0 + last ≡ last = omega arith in
-    subst (λ n. FreeUpTo n (lowestAfter last 0 ms) ms) z (after-free last 0 ms)
+    pub choice-is : (choice t source ≡ 0 → ⊥) → IsChoice t source (choice t source)
+    unfolding choice
+    choice-is some =
+        let r = chosen 8 1 (omega arith) in
+        record {
+          feeds = r .can some .0;
+          fewest = λ g e. r .fewest g (within g e .0) (omega (arith, within g e .1)) e;
+          lowest = λ g e. r .lowest g (within g e .0) (omega (arith, within g e .1)) e;
+        }
+
+    pub choice-none : choice t source ≡ 0 → (g : ℕ) → canFeed t source g ≡ false
+    unfolding choice
+    choice-none z g = by (case _)
+      where
+        by : Case (canFeed t source g) → canFeed t source g ≡ false
+        by (is y) = chosen 8 1 (omega arith) .none z g (within g y .0) (omega (arith, within g y .1))
+        by (isnt n) = n
+
+  pub choice-small : choice t source ≤ 8
+  unfolding choice
+  choice-small = omega (arith, below 8 1 (omega arith))
+    where
+      below : (more f : ℕ) → 1 ≤ f → fewestFrom t source more f < f + more
+      below zero f low = omega arith
+      below (suc more) f low = by (case _) (below more (suc f) (omega arith))
+        where
+          by : Case (canFeed t source f && (eqb (fewestFrom t source more (suc f)) 0 || leb (sizeAt t f) (sizeAt t (fewestFrom t source more (suc f))))) → fewestFrom t source more (suc f) < suc f + more → fewestFrom t source (suc more) f < f + suc more
+          by (is y) h = rw y (omega arith)
+          by (isnt n) h = rw n (omega arith)
+
+-- THE SETS THAT ARE FREE, by their frontends: those of the streams so far are emptied
+-- the sets are those of the frontends that no stream holds
+abbrev pub FreeSets : SatBox → List ℕ → Type 0
+FreeSets t sets = (f : ℕ) → getD (0 ∷ sets) f 0 ≡ cond (isHeld f (t .streams)) 0 (setOf (t .settings) f)
+
+pub record Freeing (s : Settings) (ms : List Stream) (sets : List ℕ) (k : ℕ) : Type 0 where
+  pub within : k ≤ length ms
+  pub long : length sets ≡ 8
+  pub same : (f : ℕ) → cond (isHeld f (drop k ms)) 0 (getD (0 ∷ sets) f 0) ≡ cond (isHeld f ms) 0 (setOf s f)
+
+pub freeing-start : (s : Settings) (ms : List Stream) → length (s .reach) ≡ 8 → Freeing s ms (s .reach) 0
+freeing-start s ms n = record { within = omega arith; long = n; same = λ f. refl }
+
+module _ {s : Settings} {ms : List Stream} {sets : List ℕ} {k : ℕ} (d : Stream) (r : Freeing s ms sets k) where
+  pub freeing-end : length ms ≤ k → (f : ℕ) → getD (0 ∷ sets) f 0 ≡ cond (isHeld f ms) 0 (setOf s f)
+  freeing-end h f = sym (ap (λ b. cond b 0 (getD (0 ∷ sets) f 0)) (end (isHeld f) ms k h)) ∙ r .same f
+
+  -- the next stream's frontend has no set any more
+  next : {now : List ℕ} → k < length ms → length now ≡ 8 → ((f : ℕ) → getD (0 ∷ now) f 0 ≡ cond (eqb (getD ms k d .frontend) f) 0 (getD (0 ∷ sets) f 0)) → Freeing s ms now (k + 1)
+  next {now} h n e = record { within = omega arith; long = n; same = λ f. by f (case (eqb (getD ms k d .frontend) f)) ∙ (sym (ap (λ b. cond b 0 (getD (0 ∷ sets) f 0)) (turn (isHeld f) ms k d h)) ∙ r .same f) }
+    where
+      by : (f : ℕ) → Case (eqb (getD ms k d .frontend) f) → cond (isHeld f (drop (k + 1) ms)) 0 (getD (0 ∷ now) f 0) ≡ cond (eqb (getD ms k d .frontend) f || isHeld f (drop (k + 1) ms)) 0 (getD (0 ∷ sets) f 0)
+      by f (is y) = rw (e f, y) (zero-both (isHeld f (drop (k + 1) ms)))
+        where
+          zero-both : (b : Bool) → _≡_ {A = ℕ} (cond b 0 0) 0
+          zero-both true = refl
+          zero-both false = refl
+      by f (isnt z) = rw (e f, z)
+
+  pub freeing-more : {g : ℕ} → k < length ms → g ≡ getD ms k d .frontend → 1 ≤ g → g ≤ 8 → Freeing s ms (set sets (g - 1) 0) (k + 1)
+  freeing-more {g} h q low high = next h (length-set sets (g - 1) 0 ∙ r .long) (λ f. rw (← q) (by g f low high))
+    where
+      by : (g f : ℕ) → 1 ≤ g → g ≤ 8 → getD (0 ∷ set sets (g - 1) 0) f 0 ≡ cond (eqb g f) 0 (getD (0 ∷ sets) f 0)
+      by zero f low high = absurd (omega arith)
+      by (suc j) f low high = let e : suc j - 1 ≡ j = omega arith in rw e (at (sames (suc j) f))
+        where
+          at : Same (suc j) f → getD (set (0 ∷ sets) (suc j) 0) f 0 ≡ cond (eqb (suc j) f) 0 (getD (0 ∷ sets) f 0)
+          at (same q) = rw (← q, eq-eqb (suc j) (suc j) refl) (getD-set-same (0 ∷ sets) (suc j) 0 0 (omega (arith, r .long)))
+          at (other q) = rw (ne-eqb (suc j) f q) (getD-set-other (0 ∷ sets) (suc j) f 0 0 (λ z. q (sym z)))
+
+  pub freeing-left : {g : ℕ} → k < length ms → g ≡ getD ms k d .frontend → (1 ≤ g → g ≤ 8 → ⊥) → Freeing s ms sets (k + 1)
+  freeing-left {g} h q none = next h (r .long) (λ f. rw (← q) (by f (sames g f)))
+    where
+      by : (f : ℕ) → Same g f → getD (0 ∷ sets) f 0 ≡ cond (eqb g f) 0 (getD (0 ∷ sets) f 0)
+      by f (other z) = rw (ne-eqb g f z)
+      by f (same z) = rw (eq-eqb g f z) (nothing f (λ l u. none (rw z l) (rw z u)))
+        where
+          nothing : (f : ℕ) → (1 ≤ f → f ≤ 8 → ⊥) → getD (0 ∷ sets) f 0 ≡ 0
+          nothing zero n = refl
+          nothing (suc j) n = List·getD-eq-default (0 ∷ sets) 0 {n = suc j} (omega (arith, r .long, past))
+            where
+              past : 9 ≤ suc j
+              past = by-past (case (leb (suc j) 8))
+                where
+                  by-past : Case (leb (suc j) 8) → 9 ≤ suc j
+                  by-past (is y) = absurd (n (omega arith) (leb-true _ _ y))
+                  by-past (isnt y) = omega (arith, leb-false (suc j) 8 y)
+
+-- THE SEARCH, from the last frontend down: the best of those above f, and how many sources it reaches
+pub record Choosing (t : SatBox) (source best least f : ℕ) : Type 0 where
+  pub high : f ≤ 8
+  pub same : best ≡ fewestFrom t source (8 - f) (suc f)
+  pub size : least ≡ sizeAt t best
+
+pub choosing-start : (t : SatBox) (source : ℕ) → Choosing t source 0 0 8
+choosing-start t source = record { high = omega arith; same = refl; size = refl }
+
+has-none : (source : ℕ) → has 0 source ≡ false
+has-none source = let z : 0 / 2 ^ (source - 1) ≡ 0 = zero-div (2 ^ (source - 1)) in rw (z, and-false (isBetween 1 4 source))
+
+module _ {t : SatBox} {source best least f : ℕ} (sets : List ℕ) (e : FreeSets t sets) (r : Choosing t source best least f) where
+  set-here : 1 ≤ f → getD sets (f - 1) 0 ≡ cond (isHeld f (t .streams)) 0 (setOf (t .settings) f)
+  set-here h = by f h ∙ e f
+    where
+      by : (f : ℕ) → 1 ≤ f → getD sets (f - 1) 0 ≡ getD (0 ∷ sets) f 0
+      by zero h = absurd (omega arith)
+      by (suc k) h = let z : suc k - 1 ≡ k = omega arith in rw z
+
+  module _ (low : 1 ≤ f) {fits : Bool} {size : ℕ} (p : fits ≡ has (getD sets (f - 1) 0) source) (q : size ≡ sizeOf (getD sets (f - 1) 0)) where
+    here : fewestFrom t source (8 - (f - 1)) (suc (f - 1)) ≡ cond (canFeed t source f && (eqb best 0 || leb (sizeAt t f) (sizeAt t best))) f best
+    here =
+        let a : 8 - (f - 1) ≡ suc (8 - f) = omega (arith, r .high) in
+        let b : suc (f - 1) ≡ f = omega arith in
+        ap (λ n. fewestFrom t source n (suc (f - 1))) a
+        ∙ (ap (λ k. fewestFrom t source (suc (8 - f)) k) b
+        ∙ ap (λ g. cond (canFeed t source f && (eqb g 0 || leb (sizeAt t f) (sizeAt t g))) f g) (sym (r .same)))
+
+    flag : ((leb f (t .settings .frontends) && fits) && (eqb best 0 || leb size least)) ≡ (canFeed t source f && (eqb best 0 || leb (sizeAt t f) (sizeAt t best)))
+    flag = by (case (isHeld f (t .streams)))
+      where
+        by : Case (isHeld f (t .streams)) → ((leb f (t .settings .frontends) && fits) && (eqb best 0 || leb size least)) ≡ (canFeed t source f && (eqb best 0 || leb (sizeAt t f) (sizeAt t best)))
+        by (is y) =
+            let z : getD sets (f - 1) 0 ≡ 0 = set-here low ∙ rw y in
+            rw (p, z, has-none source, y, and-false (leb f (t .settings .frontends)), and-false (isBetween 1 (t .settings .frontends) f))
+        by (isnt n) =
+            let z : getD sets (f - 1) 0 ≡ setOf (t .settings) f = set-here low ∙ rw n in
+            rw (p, q, z, n, r .size, le-leb 1 f low)
+
+    module _ {last b l : ℕ} (k : last ≡ t .settings .frontends) where
+      pub choosing-take : ((leb f last && fits) && (eqb best 0 || leb size least)) ≡ true → b ≡ f → l ≡ size → Choosing t source b l (f - 1)
+      choosing-take y u w =
+          let v : ((leb f (t .settings .frontends) && fits) && (eqb best 0 || leb size least)) ≡ true = rw k at y in
+          rw (u, w)
+          (record {
+            high = omega (arith, r .high);
+            same = sym (here ∙ rw (sym flag ∙ v));
+            size = by v (case (isHeld f (t .streams)));
+          })
+        where
+          by : ((leb f (t .settings .frontends) && fits) && (eqb best 0 || leb size least)) ≡ true → Case (isHeld f (t .streams)) → size ≡ sizeAt t f
+          by v (is h) = let z : getD sets (f - 1) 0 ≡ 0 = set-here low ∙ rw h in never v (rw (p, z, has-none source, and-false (leb f (t .settings .frontends))))
+          by v (isnt n) = let z : getD sets (f - 1) 0 ≡ setOf (t .settings) f = set-here low ∙ rw n in q ∙ ap sizeOf z
+
+      pub choosing-leave : ((leb f last && fits) && (eqb best 0 || leb size least)) ≡ false → b ≡ best → l ≡ least → Choosing t source b l (f - 1)
+      choosing-leave n u w =
+          let v : ((leb f (t .settings .frontends) && fits) && (eqb best 0 || leb size least)) ≡ false = rw k at n in
+          rw (u, w) (record { high = omega (arith, r .high); same = sym (here ∙ rw (sym flag ∙ v)); size = r .size })
+
+pub choosing-end : (t : SatBox) (source : ℕ) {best least f : ℕ} → f ≡ 0 → Choosing t source best least f → best ≡ choice t source
+unfolding choice
+choosing-end t source e r = r .same ∙ rw e

@@ -1,11 +1,14 @@
 // What is free among the places, the stream IDs, the frontends and the session numbers of a table.
 ghost use mathlib.Core.Path.{_≡_};
-ghost use Prim.Native.Nat.{_≤_};
+ghost use Prim.Native.Nat.{ℕ, _≤_};
+ghost use mathlib.Core.Bool.{cond};
+ghost use lib.ListN.{getD};
 ghost use Rattle.scan.specs.Found.{FirstOf};
-ghost use mathlib.Core.List.{map};
+ghost use mathlib.Core.List.{_∷_, map};
 ghost use Rattle.stream.specs.declared.Stream.{Stream};
+ghost use Rattle.table.specs.Reach.{setOf};
 ghost use Rattle.table.specs.Table.{hasNumber, isFree, isDead, openCount, owns};
-ghost use Rattle.finding.specs.Finding.{lowestId, isHeld, lowestFrontend, drawn};
+ghost use Rattle.finding.specs.Finding.{lowestId, isHeld, choice, drawn};
 use table::SatBox;
 use table::Session;
 
@@ -79,20 +82,47 @@ pub fn is_held(t: SatBox, f: u32) -> bool
     table::is_among(&frontends_of(t), f)
 }
 
-// The lowest frontend that no stream holds; the one after the last where all are held.
-pub fn lowest_frontend(t: SatBox) -> u32
-    ensures { λ r. ⌜ r ≡ lowestFrontend (t .settings .frontends) (t .streams) ⌝ }
+// The set of each frontend by its place, empty where a stream holds the frontend.
+fn free_sets(t: SatBox) -> [u8; 8]
+    ensures { λ r. ⌜ ((f : ℕ) → getD (0 ∷ r) f 0 ≡ cond (isHeld f (t .streams)) 0 (setOf (t .settings) f)) ⌝ }
 {
-    let held = frontends_of(t);
-    let last = t.settings.frontends as u32;
-    let mut f = 1;
-    while f <= last {
-        if !table::is_among(&held, f) {
-            return f;
+    let settings = t.settings;
+    let mut sets = settings.reach;
+    let mut k = 0;
+    while k < SatBox::STREAMS {
+        let m = t.streams[k];
+        let f = m.frontend as usize;
+        k += 1;
+        if f < 1 {
+            continue;
         }
-        f += 1;
+        if 8 < f {
+            continue;
+        }
+        sets[f - 1] = 0;
     }
-    f
+    sets
+}
+
+// Of the free frontends that reach a source, the one that reaches the fewest, of these the lowest; 0 where there is none.
+pub fn choice(t: SatBox, source: u32) -> u32
+    ensures { λ r. ⌜ r ≡ choice t source ⌝ }
+{
+    let sets = free_sets(t);
+    let last = t.settings.frontends as u32;
+    let mut best = 0;
+    let mut least = 0;
+    let mut f = 8;
+    while 0 < f {
+        let set = sets[f as usize - 1];
+        let size = table::size_of(set);
+        if ((f <= last) & table::has(set, source)) & ((best == 0) | (size <= least)) {
+            best = f;
+            least = size;
+        }
+        f -= 1;
+    }
+    best
 }
 
 // The first number, counting up from the draw, that is not 0 and that no session has; after 4294967295 comes 0.

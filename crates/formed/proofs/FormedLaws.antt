@@ -7,9 +7,9 @@ use lib.Dec.{eqb}
 use lib.ListN.{getD, List·getD-map}
 use Rattle.scan.specs.Lists.{all}
 use Rattle.scan.proofs.Bools.{never, and-both, both, Case, is, isnt, case}
-use Rattle.stream.specs.Streams.{pastStream, isSound}
+use Rattle.stream.specs.Streams.{pastStream}
 use Rattle.table.specs.Table.{areDistinct, isFree}
-use Rattle.table.specs.Formed.{areSizes, areOwned, wellFormed}
+use Rattle.table.specs.Formed.{areSettings, isPlaced, areOwned, wellFormed}
 use Rattle.table.proofs.Rules.{numbersOf, frontendsOf, isHoused, isProper}
 use Rattle.table.specs.declared.SatBox.{SatBox}
 use Rattle.table.proofs.Places.{failed, held}
@@ -41,16 +41,16 @@ module _ (t : SatBox) where
       (t .sessions)
 
   -- what the two looks say of a well-formed table
-  parts : wellFormed t ≡ true → (all (isSound (t .settings .frontends)) (t .streams) ≡ true)
+  parts : wellFormed t ≡ true → (all (isPlaced (t .settings)) (t .streams) ≡ true)
       × ((feeds : List ℕ) → feeds ≡ 0 ∷ frontendsOf (t .streams) → areSeated (t .clock) (t .held) (t .settings .size) feeds (t .sessions) ≡ true)
   unfolding wellFormed
   parts y =
-      let a = and-both (areSizes (t .settings)) _ y in
+      let a = and-both (areSettings (t .settings)) _ y in
       let b = and-both (areDistinct (numbersOf (t .sessions))) _ (a .1) in
       let c = and-both (all (isHoused t) (t .sessions)) _ (b .1) in
       let d = and-both (areOwned (t .sessions) 1 (t .streams)) _ (c .1) in
       let f = and-both (areDistinct (frontendsOf (t .streams))) _ (d .1) in
-      let g = and-both (all (isSound (t .settings .frontends)) (t .streams)) _ (f .1) in
+      let g = and-both (all (isPlaced (t .settings)) (t .streams)) _ (f .1) in
       (g .0, λ feeds e. both (b .0) (both (homed-housed e ∙ c .0) (g .1)))
 
   ill : (wellFormed t ≡ true → ⊥) → Ill ≡ standingOf t
@@ -61,7 +61,7 @@ module _ (t : SatBox) where
       by (is y) = absurd (h y)
       by (isnt n) = rw n
 
-  pub unsound : {r : Bool} → r ≡ all (isSound (t .settings .frontends)) (t .streams) → not r ≡ true → Ill ≡ standingOf t
+  pub unsound : {r : Bool} → r ≡ all (isPlaced (t .settings)) (t .streams) → not r ≡ true → Ill ≡ standingOf t
   unsound e q = ill (λ y. never (parts y .0) (failed e q))
 
   module _ {feeds : List ℕ} (e : feeds ≡ 0 ∷ frontendsOf (t .streams)) {s : Standing} (x : s ≡ seatsOf (t .clock) (t .held) (t .settings .size) feeds (t .sessions)) where
@@ -71,7 +71,7 @@ module _ (t : SatBox) where
     pub unseated : {w : Bool} → w ≡ isWell s → not w ≡ true → Ill ≡ standingOf t
     unseated i q = ill (λ y. never (parts y .1 feeds e) (sym told ∙ failed i q))
 
-    module _ {w u a b c : Bool} (i : w ≡ isWell s) (q : not w ≡ false) (z : u ≡ all (isSound (t .settings .frontends)) (t .streams)) (k : not u ≡ false) (f : a ≡ areSizes (t .settings)) (g : b ≡ areDistinct feeds) (o : c ≡ areOwned (t .sessions) 1 (t .streams)) where
+    module _ {w u a b c : Bool} (i : w ≡ isWell s) (q : not w ≡ false) (z : u ≡ all (isPlaced (t .settings)) (t .streams)) (k : not u ≡ false) (f : a ≡ areSettings (t .settings)) (g : b ≡ areDistinct feeds) (o : c ≡ areOwned (t .sessions) 1 (t .streams)) where
       decides : wellFormed t ≡ (a && b) && c
       unfolding wellFormed
       decides =

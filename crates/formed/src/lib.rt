@@ -12,13 +12,15 @@ ghost use Rattle.stream.specs.Values.{isZero};
 ghost use Rattle.stream.specs.Streams.{isSound};
 ghost use Rattle.stream.specs.declared.Stream.{Stream};
 ghost use Rattle.table.specs.Table.{count, areDistinct, isAmong, isFree, isOpen, owns};
-ghost use Rattle.table.specs.Formed.{areOwned, isSeated, isBlank};
+ghost use Rattle.table.specs.Reach.{has, setOf};
+ghost use Rattle.table.specs.Formed.{isPlaced, areOwned, isSeated, isBlank};
 ghost use Rattle.table.specs.declared.Session.{Session};
 ghost use Rattle.formed.specs.Standings.{oldest, standingOf, isWell, oldestIn};
 ghost use Rattle.formed.specs.declared.Standing.the-variants.{Ill, Well};
 use stream::Stream;
 use table::SatBox;
 use table::Session;
+use table::Settings;
 
 // What one look at a table finds: that no box could stand so, or the oldest last time of its open sessions.
 pub enum Standing {
@@ -147,10 +149,21 @@ fn are_owned(feeds: &[u32], owners: &[u32]) -> bool
     owned
 }
 
-// Whether the streams are sound; their frontends are put at their IDs.
-fn are_sound(streams: [Stream; 8], frontends: u16, feeds: &mut [u32]) -> bool
+// Whether a live stream is sound, and its frontend reaches its src.
+fn is_placed(m: Stream, settings: Settings) -> bool
+    ensures { λ r. ⌜ r ≡ (isSound (settings .frontends) m && has (setOf settings (m .frontend)) (m .values .src)) ⌝ }
+{
+    if !stream::is_sound(m, settings.frontends) {
+        return false;
+    }
+    let v = m.values;
+    table::has(table::set_of(settings, wide(m.frontend)), v.src)
+}
+
+// Whether the streams are sound, each on a frontend that reaches its src; their frontends are put at their IDs.
+fn are_sound(streams: [Stream; 8], settings: Settings, feeds: &mut [u32]) -> bool
     requires { ⌜ now feeds ≡ replicate 9 0 ⌝ }
-    ensures { λ r. ⌜ (r ≡ all (isSound frontends) streams) × (r ≡ true → now (feeds .exit) ≡ 0 ∷ map (λ m. m .frontend) streams) ⌝ }
+    ensures { λ r. ⌜ (r ≡ all (isPlaced settings) streams) × (r ≡ true → now (feeds .exit) ≡ 0 ∷ map (λ m. m .frontend) streams) ⌝ }
 {
     let mut k = 0;
     while k < SatBox::STREAMS {
@@ -163,7 +176,7 @@ fn are_sound(streams: [Stream; 8], frontends: u16, feeds: &mut [u32]) -> bool
             k += 1;
             continue;
         }
-        if !stream::is_sound(streams[k], frontends) {
+        if !is_placed(streams[k], settings) {
             return false;
         }
         k += 1;
@@ -241,7 +254,7 @@ pub fn standing_of(t: SatBox) -> Standing
 {
     let streams = t.streams;
     let mut feeds = [0u32; 9];
-    if !are_sound(streams, t.settings.frontends, &mut feeds) {
+    if !are_sound(streams, t.settings, &mut feeds) {
         return Standing::Ill;
     }
     let sessions = t.sessions;
@@ -257,7 +270,7 @@ pub fn standing_of(t: SatBox) -> Standing
     if !is_well(standing) {
         return Standing::Ill;
     }
-    if table::are_sizes(t.settings) & table::are_distinct(&feeds) & are_owned(&feeds, &owners) {
+    if table::are_settings(t.settings) & table::are_distinct(&feeds) & are_owned(&feeds, &owners) {
         return standing;
     }
     Standing::Ill

@@ -106,7 +106,7 @@ opening-fitting m client t short =
     let id = lowestId (t .streams) in
     let s = guest 1 id client t in
     let n = drawn-short (t .sessions) (client .draw) short in
-    cond-keeps (Fitting t) (canOpen (m .frontend) t) (seated 1 s (restreamed id m t)) (nothing t)
+    cond-keeps (Fitting t) (canOpen (m .values .src) (m .frontend) t) (seated 1 s (restreamed id m t)) (nothing t)
     (λ e h.
     let f = noting-fitting 1 0 s (lowestPlace (t .sessions)) s (restreamed id m t) n n (record { clock = h .clock; numbers = h .numbers }) in
     record { kept = f .kept; fit = f .fit })

@@ -110,11 +110,11 @@ pub granted : Meets 31 1024 Passed 200
 unfolding meanings
 granted =
     meets-passed 31 (record { sizes = refl; journal = refl; calls = refl }) refl refl
-    (record { opening = refl; seen = refl; query = refl; place = refl; frontend = λ z. refl }) (omega arith)
+    (record { opening = refl; seen = refl; query = refl; src = refl; place = refl; frontend = λ z. refl }) (omega arith)
 
 -- REFUSED FOR ROOM ALONE, step 18: after 32 rounds C bytes are held
 pub refused : Meets 32 1056 Full 503
 unfolding meanings
 refused =
     meets-full 32 (record { sizes = refl; journal = refl; calls = refl }) refl refl
-    (record { opening = refl; seen = refl; query = refl; place = refl; frontend = λ z. refl }) (omega arith)
+    (record { opening = refl; seen = refl; query = refl; src = refl; place = refl; frontend = λ z. refl }) (omega arith)

@@ -138,7 +138,7 @@ module _ (n c : ℕ) (some : n ≡ 0 → ⊥) where
     opening-ages m client =
         let id = lowestId (t .streams) in
         let s = guest 1 id client t in
-        cond-keeps (Ages t) (canOpen (m .frontend) t) (seated 1 s (restreamed id m t)) (nothing t)
+        cond-keeps (Ages t) (canOpen (m .values .src) (m .frontend) t) (seated 1 s (restreamed id m t)) (nothing t)
         (λ e h. record { clock = refl; heard = set-heard (lowestPlace (t .sessions)) s (λ z. now) h; late = refl }) (λ e. ages-nothing t)
 
     kin-heard : (s old : Session) → (old .number ≡ n → c ≤ old .last) → s .number ≡ old .number → (s .last ≡ old .last) ⊎ (s .last ≡ t .clock) → s .number ≡ n → c ≤ s .last

@@ -12,7 +12,7 @@ use Rattle.writing.specs.Writing.{written}
 use Rattle.writing.proofs.Writes.{written-length}
 use Rattle.journal.specs.Records.{isRecord}
 use Rattle.journal.specs.declared.Record.{Record}
-use Rattle.table.specs.Formed.{areSizes}
+use Rattle.table.specs.Formed.{areSettings}
 use Rattle.table.specs.declared.Settings.{Settings}
 use Rattle.table.specs.declared.SatBox.{SatBox}
 use Rattle.table.specs.declared.Outcome.{Outcome}
@@ -49,7 +49,7 @@ pub sized : {settings : Settings} {x : Life} → Good settings x → x .satbox .
 sized g = size-of (g .set)
 
 -- A FRESH BOX
-pub born-good : (settings : Settings) (j : List ℕ) → areSizes settings ≡ true → length j ≡ settings .size → Good settings (lifeAfter settings j [])
+pub born-good : (settings : Settings) (j : List ℕ) → areSettings settings ≡ true → length j ≡ settings .size → Good settings (lifeAfter settings j [])
 born-good settings j e h =
     record {
       whole = fresh-whole settings e;

@@ -92,7 +92,7 @@ unfolding opening seated noting reseated restreamed
 opening-lasts m client t =
     let id = lowestId (t .streams) in
     let s = guest 1 id client t in
-    cond-keeps (Lasts t) (canOpen (m .frontend) t) (seated 1 s (restreamed id m t)) (nothing t)
+    cond-keeps (Lasts t) (canOpen (m .values .src) (m .frontend) t) (seated 1 s (restreamed id m t)) (nothing t)
     (λ e.
     record {
       numbers = λ i some. ap (λ (x : Session). x .number) (getD-set-other (t .sessions) (lowestPlace (t .sessions)) i s noSession (beside t (and-both (hasPlace t) _ e .0) i some));

@@ -52,7 +52,7 @@ module _ (t : SatBox) (a : Asked) (l : Lists) (p : PassesElse t a l) where
 
   case-is : caseOf t a l ≡ (not (hasRoom t) gives Full or Passed)
   unfolding caseOf
-  case-is = rw (p .seen, p .query, p .opening, seat-is-room)
+  case-is = rw (p .seen, p .query, p .src, p .opening, seat-is-room)
 
   module _ (client : Client) where
     pub full-case : hasRoom t ≡ false → served t a l client .case ≡ Full

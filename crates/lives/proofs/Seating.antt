@@ -81,7 +81,7 @@ agree-joined h id client t e g =
     ∙ (g .same f n z ∙ ap (isHolder n) (sym (noted-joined f (recordOf 2 0 s t) refl (audited f h)))))
 
 -- A NEW STREAM OPENS, with its owner
-module _ (h : List Record) (m : Stream) (client : Client) (t : SatBox) (short : client .draw < 4294967296) (e : canOpen (m .frontend) t ≡ true) (w : Whole t) (g : Agree h t) where
+module _ (h : List Record) (m : Stream) (client : Client) (t : SatBox) (short : client .draw < 4294967296) (e : canOpen (m .values .src) (m .frontend) t ≡ true) (w : Whole t) (g : Agree h t) where
   abbrev id : ℕ
   id = lowestId (t .streams)
 
@@ -93,14 +93,14 @@ module _ (h : List Record) (m : Stream) (client : Client) (t : SatBox) (short : 
 
   -- nobody is on it yet
   pub nobody : count (isOn id) (t .sessions) ≡ 0
-  nobody = w .formed .seats .homes id (eqb-true _ _ (first-passes isDead (t .streams) pastStream (row (m .frontend) t e w)))
+  nobody = w .formed .seats .homes id (eqb-true _ _ (first-passes isDead (t .streams) pastStream (row (m .values .src) (m .frontend) t e w)))
 
   pub agree-new : Agree h u
   agree-new = agree-freed t g id m nobody
 
   new-frontend : streamOf u id .frontend ≡ m .frontend
   unfolding restreamed
-  new-frontend = ap (λ (x : Stream). x .frontend) (getD-set-same (t .streams) (first isDead (t .streams)) m pastStream (row (m .frontend) t e w))
+  new-frontend = ap (λ (x : Stream). x .frontend) (getD-set-same (t .streams) (first isDead (t .streams)) m pastStream (row (m .values .src) (m .frontend) t e w))
 
   some : s .number ≡ 0 → ⊥
   some = drawn-nonzero (t .sessions) (client .draw) (w .places) short
@@ -108,7 +108,7 @@ module _ (h : List Record) (m : Stream) (client : Client) (t : SatBox) (short : 
   -- and nobody has its frontend
   fresh : (f n : ℕ) → (f ≡ 0 → ⊥) → streamOf u id .frontend ≡ f → any (keeps (u .streams) f n) (u .sessions) ≡ false
   fresh f n z q =
-      agree-new .same f n z ∙ (sym (g .same f n z) ∙ unfed-keeps (t .streams) f n (t .sessions) (subst (λ k. count (fed k) (t .streams) ≡ 0) (sym new-frontend ∙ q) (new-feed (m .frontend) t e)) z)
+      agree-new .same f n z ∙ (sym (g .same f n z) ∙ unfed-keeps (t .streams) f n (t .sessions) (subst (λ k. count (fed k) (t .streams) ≡ 0) (sym new-frontend ∙ q) (new-feed (m .values .src) (m .frontend) t e)) z)
 
   abbrev r : Record
   r = recordOf 1 0 s u

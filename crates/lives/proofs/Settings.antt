@@ -50,7 +50,7 @@ opening-set : (m : Stream) (client : Client) (t : SatBox) → Sets t (opening m 
 unfolding opening seated noting reseated restreamed
 opening-set m client t =
     let id = lowestId (t .streams) in
-    cond-keeps (Sets t) (canOpen (m .frontend) t) (seated 1 (guest 1 id client t) (restreamed id m t)) (nothing t)
+    cond-keeps (Sets t) (canOpen (m .values .src) (m .frontend) t) (seated 1 (guest 1 id client t) (restreamed id m t)) (nothing t)
     (λ e. record { settings = refl; clock = refl }) (λ e. same-set t)
 
 -- A SESSION CHANGED in its place, with a query merged or not

@@ -37,7 +37,7 @@ unfolding opening seated restreamed
 opening-watched m client t short w =
     let id = lowestId (t .streams) in
     let s = guest 1 id client t in
-    cond-keeps (Watched t) (canOpen (m .frontend) t) (seated 1 s (restreamed id m t)) (nothing t)
+    cond-keeps (Watched t) (canOpen (m .values .src) (m .frontend) t) (seated 1 s (restreamed id m t)) (nothing t)
     (λ e h g. noted (quiet (begun g) (restream id m (nobody h m client t short e w g)) (agree-new h m client t short e w g)) (opensAsOwner s (lowestPlace (t .sessions)) (omega (arith, place-free t (and-both (hasPlace t) _ e .0) .0)) (place-free t (and-both (hasPlace t) _ e .0) .1) (drawn-nonzero (t .sessions) (client .draw) (w .places) short) (λ q. omega arith)) (agree-opened h m client t short e w g))
     (λ e. watched-nothing t)
 

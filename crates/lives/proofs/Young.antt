@@ -57,7 +57,7 @@ unfolding opening seated noting reseated restreamed
 opening-young m client t y =
     let id = lowestId (t .streams) in
     let s = guest 1 id client t in
-    cond-keeps (λ (d : Did). Young (t .clock) (d .satbox)) (canOpen (m .frontend) t) (seated 1 s (restreamed id m t)) (nothing t)
+    cond-keeps (λ (d : Did). Young (t .clock) (d .satbox)) (canOpen (m .values .src) (m .frontend) t) (seated 1 s (restreamed id m t)) (nothing t)
     (λ e k. getD-set-all (λ (x : Session). isExpired (t .clock) x ≡ false) (t .sessions) (lowestPlace (t .sessions)) k s noSession (heard (t .clock) s refl) (y k))
     (λ e. y)
 

@@ -12,7 +12,7 @@ use Rattle.table.specs.declared.Settings.{Settings}
 use Rattle.table.specs.declared.SatBox.{SatBox}
 use Rattle.table.specs.declared.Outcome.{Outcome}
 use Rattle.table.specs.declared.Outcome.the-variants.{Done, Refused}
-use Rattle.table.specs.Formed.{areSizes}
+use Rattle.table.specs.Formed.{areSettings}
 use Rattle.orders.specs.Orders.{orderOf}
 use Rattle.orders.specs.declared.Ordered.{Ordered}
 use Rattle.orders.specs.declared.Ordered.the-variants.{On, Off, Refused as Unordered}
@@ -110,9 +110,9 @@ abbrev pub recordsOf : List Call → Life → List Record
 recordsOf [] x = []
 recordsOf (c ∷ cs) x = live c x .records ++ recordsOf cs (live c x)
 
--- a life of the calls cs: F and C are in range, the first journal has length C, and each call is one that a caller may make
+-- a life of the calls cs: F, C and the sets of sources are in range, the first journal has length C, and each call is one that a caller may make
 pub record Lives (settings : Settings) (j : List ℕ) (cs : List Call) : Type 0 where
-  pub sizes : areSizes settings ≡ true
+  pub sizes : areSettings settings ≡ true
   pub journal : length j ≡ settings .size
   pub calls : all (isCall (settings .size)) cs ≡ true
 

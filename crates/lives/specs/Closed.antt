@@ -18,7 +18,8 @@ use Rattle.steps.specs.Sights.{sessionNumber, placeNamed, sightOf, Asked, Lists
 use Rattle.steps.specs.Steps.{isPassed, tableCase}
 use Rattle.steps.specs.declared.cases.Case.the-variants.{Passed}
 use Rattle.closings.specs.Closing.{recordOf, isExpired, sweeping}
-use Rattle.serving.specs.Serving.{hasPlace, hasFrontend, feedOf, merging, merges, mergeCase, isOpening}
+use Rattle.serving.specs.Serving.{hasPlace, sourceOf, feedOf, merging, merges, mergeCase, isUnreached, isOpening}
+use Rattle.finding.specs.Finding.{canFeed}
 use Rattle.satbox.specs.Calls.{requested}
 use Rattle.lives.specs.Calls.{Lent, Call, request, tick}
 
@@ -114,10 +115,12 @@ pub data Ends (t : SatBox) (i : ℕ) : Call → Type 0 where
       → Ends t i (request s clock address draw b l)
 
 -- a request that steps 1 to 10 let through asks a and gives the PIDs l; the box t was swept. It is a SETUP without a session that steps 11 to 17 let
--- through, and of step 18 there is a free session place and, for a new stream, not "fe is held, or with no fe and no frontend free"
+-- through, and of step 18 there is a free session place and, for a new stream, by order 1 not "no free frontend reaches the src, or the named one is held
+-- or does not reach it"
 pub record PassesElse (t : SatBox) (a : Asked) (l : Lists) : Type 0 where
   pub opening : isOpening (sightOf t a) ≡ true
   pub seen : tableCase (sightOf t a) ≡ Passed
   pub query : merges (sightOf t a) && not (isPassed (mergeCase (merging t a l .outcome))) ≡ false
+  pub src : merges (sightOf t a) && (not (eqb (a .stream) 0) && isUnreached (sightOf t a)) ≡ false
   pub place : hasPlace t ≡ true
-  pub frontend : sightOf t a .stream ≡ 0 → hasFrontend (feedOf t (sightOf t a .fe)) t ≡ true
+  pub frontend : sightOf t a .stream ≡ 0 → canFeed t (sourceOf (sightOf t a)) (feedOf t (sightOf t a)) ≡ true

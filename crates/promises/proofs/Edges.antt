@@ -30,7 +30,7 @@ use Rattle.stream.specs.Streams.{noStream, areZero, isSound, changed, mergeOf}
 use Rattle.stream.specs.declared.Stream.{Stream}
 use Rattle.table.specs.Table.{any, noSession, hasNumber, isOpen, openCount}
 use Rattle.table.specs.Formed.{isSeated, isBlank, wellFormed}
-use Rattle.finding.specs.Finding.{lowestFrontend, drawn}
+use Rattle.finding.specs.Finding.{choice, drawn}
 use Rattle.finding.proofs.Draws.{drawnFrom, drawn-new, drawn-nonzero}
 use Rattle.table.specs.Made.{settingsOf}
 use Rattle.table.specs.declared.Session.{Session}
@@ -60,7 +60,7 @@ unfolding listed numbersIn readNumber
 listing = 0
 
 unfoldable pub serving : ℕ
-unfolding requested answered served caseOf merging withSession joining opening seatingAs closeOne closeOn cascade closing sweepAt swept atClock upto restreamed reseated noting tableCase sightOf drawn lowestFrontend mergeOf changed chosen goTogether merged
+unfolding requested answered served caseOf merging withSession joining opening seatingAs closeOne closeOn cascade closing sweepAt swept atClock upto restreamed reseated noting tableCase sightOf drawn choice mergeOf changed chosen goTogether merged
 serving = 0
 
 unfoldable pub meanings : ℕ

@@ -1,4 +1,5 @@
 pub mod Passing
+pub mod Reaching
 pub mod Serving
 pub mod Requests
 pub mod Records

@@ -34,8 +34,8 @@ use Rattle.closings.proofs.Closings.{closing-fine}
 use Rattle.closings.proofs.Keeping.{Whole, live-id, owner-sessions, owner-streams}
 use Rattle.serving.proofs.OpeningKeeps.{row}
 use Rattle.serving.proofs.Passing.{Untested, named-needed, own-live, own-stream, named-closable}
-use Rattle.serving.proofs.Branching.{merging-new, merging-live, merging-feed}
-use Rattle.promises.proofs.Passing.{Changing, served-by, tears-closable, feed, can-join, can-open}
+use Rattle.serving.proofs.Branching.{merging-new, merging-live, merging-feed, merging-src}
+use Rattle.promises.proofs.Passing.{Changing, served-by, tears-closable, source, feed, can-join, can-open, new-merged}
 use Rattle.promises.proofs.Requests.{answered-by}
 
 -- WHAT IS SAID. What is fixed when a box is made, F and C, and the clock are as they were
@@ -286,12 +286,13 @@ module _ (s : List ℕ) (address draw : ℕ) (t : SatBox) where
           let id = lowestId (t .streams) in
           let m = merging t a l .stream in
           let y = can-open t a l changing setup unnamed none in
-          let open-there : canOpen (m .frontend) t ≡ true = rw (merging-feed t a l client (sightOf t a) refl none) y in
+          let o = new-merged t a l changing setup unnamed none in
+          let open-there : canOpen (m .values .src) (m .frontend) t ≡ true = rw (merging-src t a l client (sightOf t a) refl none o, merging-feed t a l client (sightOf t a) refl none) y in
           subst (λ x. Changes t u (lowestPlace (t .sessions)) (newcomer address draw (portOf (a .transport)) id 1 t) id x)
           (ap (λ (c : Change). c .stream) (merging-new t a l client (sightOf t a) refl none))
           (rw (does setup, unnamed, eq-eqb (a .stream) 0 none, open-there)
           (changes-both w (placed _ y) refl (settled-same refl refl) id m refl
-          (getD-set-same (t .streams) (first isDead (t .streams)) m pastStream (row (feed t a) t y w))))
+          (getD-set-same (t .streams) (first isDead (t .streams)) m pastStream (row (source t a) (feed t a) t y w))))
 
     -- TEARDOWN closes
     module _ (teardown : methodOf s ≡ Teardown) where

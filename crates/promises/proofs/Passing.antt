@@ -2,22 +2,25 @@
 use mathlib.Core.Path.{_≡_, refl, ap}
 use mathlib.Core.Bool.{Bool, true, false, not, _&&_}
 use Prim.Native.Nat.{ℕ}
+use lib.Dec.{eqb}
 use lib.ListN.{getD}
 use borrow.Author.Tests.{ne-eqb, eqb-false, not-false}
 use Rattle.scan.proofs.Bools.{never, Case, is, isnt, case, cond-keeps}
 use Rattle.aim.specs.declared.Method.the-variants.{Setup, Teardown}
 use Rattle.stream.specs.declared.Outcome.{Outcome}
 use Rattle.stream.specs.declared.Outcome.the-variants.{Merged, Combination as Clash, TooMany}
+use Rattle.table.specs.Table.{streamOf}
+use Rattle.table.specs.Reach.{has, setOf}
 use Rattle.table.specs.declared.SatBox.{SatBox}
 use Rattle.steps.specs.Sights.{Asked, Lists, sightOf}
 use Rattle.steps.specs.Steps.{isPassed, isSetup, isNamed, tableCase}
 use Rattle.steps.specs.Tests.{lacksPort}
 use Rattle.steps.specs.declared.Sight.{Sight}
 use Rattle.steps.specs.declared.cases.Case.{Case as Verdict}
-use Rattle.steps.specs.declared.cases.Case.the-variants.{Passed, Combination, TooManyPids, Full}
+use Rattle.steps.specs.declared.cases.Case.the-variants.{Passed, Combination, TooManyPids, NotReached, Full}
 use Rattle.steps.proofs.ReplyLaws.{unread-passed, table-unread}
 use Rattle.closings.specs.Does.{Closable}
-use Rattle.serving.specs.Serving.{canJoin, canOpen, feedOf, merging, merges, mergeCase, isOpening, canSeat, caseOf, Serving, grant, denied, served}
+use Rattle.serving.specs.Serving.{canJoin, canOpen, sourceOf, feedOf, merging, merges, mergeCase, isUnreached, isOpening, canSeat, caseOf, Serving, grant, denied, served}
 use Rattle.serving.specs.Turns.{changeCase}
 use Rattle.serving.specs.declared.opening.Client.{Client}
 use Rattle.closings.proofs.Keeping.{Whole}
@@ -28,6 +31,7 @@ use Rattle.scan.specs.Lists.{_gives_or_}
 -- STEPS 16 TO 18: none of their tests holds
 pub record Changing (t : SatBox) (a : Asked) (l : Lists) : Type 0 where
   pub query : merges (sightOf t a) && not (isPassed (mergeCase (merging t a l .outcome))) ≡ false
+  pub src : merges (sightOf t a) && (not (eqb (a .stream) 0) && isUnreached (sightOf t a)) ≡ false
   pub seat : isOpening (sightOf t a) && not (canSeat t (sightOf t a)) ≡ false
 
 -- a case that is given only where it does not pass
@@ -42,8 +46,9 @@ chain-of true c d e = by (case (isPassed c))
 changing : (t : SatBox) (a : Asked) (l : Lists) → changeCase t a l ≡ Passed → Changing t a l
 changing t a l e =
     let m = chain-of (merges (sightOf t a)) (mergeCase (merging t a l .outcome)) _ e in
-    let s = chain (isOpening (sightOf t a) && not (canSeat t (sightOf t a))) Full Passed refl (m .1) in
-    record { query = m .0; seat = s .0 }
+    let r = chain (merges (sightOf t a) && (not (eqb (a .stream) 0) && isUnreached (sightOf t a))) NotReached _ refl (m .1) in
+    let s = chain (isOpening (sightOf t a) && not (canSeat t (sightOf t a))) Full Passed refl (r .1) in
+    record { query = m .0; src = r .0; seat = s .0 }
 
 -- ALL OF THEM
 through : (t : SatBox) (a : Asked) (l : Lists) → caseOf t a l ≡ Passed → Untested (sightOf t a) × Changing t a l
@@ -77,9 +82,12 @@ tears-closable t a w p e = named-closable t w a (sightOf t a) refl (named-needed
 pub through-port : (v : Sight) → Untested v → isSetup (v .method) ≡ true → v .port ≡ 0 → ⊥
 through-port v p setup = eqb-false _ _ (and-other (isSetup (v .method)) _ (p .port) setup)
 
--- the frontend that a new stream takes
+-- the src of a new stream, and the frontend that it takes
+abbrev pub source : SatBox → Asked → ℕ
+source t a = sourceOf (sightOf t a)
+
 abbrev pub feed : SatBox → Asked → ℕ
-feed t a = feedOf t (getD (a .codes) 1 0)
+feed t a = feedOf t (sightOf t a)
 
 module _ (t : SatBox) (a : Asked) (l : Lists) (p : Changing t a l) where
   merged-only : (o : Outcome) → not (isPassed (mergeCase o)) ≡ false → o ≡ Merged
@@ -90,6 +98,13 @@ module _ (t : SatBox) (a : Asked) (l : Lists) (p : Changing t a l) where
   -- 16 and 17: a query that is merged goes through
   pub through-merged : merges (sightOf t a) ≡ true → merging t a l .outcome ≡ Merged
   through-merged e = merged-only (merging t a l .outcome) (and-other (merges (sightOf t a)) _ (p .query) e)
+
+  -- 17, for a src: one that is given is reached by the frontend of the stream
+  pub through-reached : merges (sightOf t a) ≡ true → (a .stream ≡ 0 → ⊥) → (getD (a .codes) 0 0 ≡ 0 → ⊥) → has (setOf (t .settings) (streamOf t (a .stream) .frontend)) (getD (a .codes) 0 0) ≡ true
+  unfolding sightOf
+  through-reached e some given =
+      let r : not (has (setOf (t .settings) (streamOf t (a .stream) .frontend)) (getD (a .codes) 0 0)) ≡ false = rw (ne-eqb (a .stream) 0 some, ne-eqb (getD (a .codes) 0 0) 0 given) at (and-other (merges (sightOf t a)) _ (p .src) e) in
+      not-false _ r
 
   -- 18: an opening has all that it takes
   through-seat : isOpening (sightOf t a) ≡ true → canSeat t (sightOf t a) ≡ true
@@ -104,7 +119,7 @@ module _ (t : SatBox) (a : Asked) (l : Lists) (p : Changing t a l) where
 
     -- that names none: there is all that opening takes, and the query is merged into a new stream
     module _ (none : a .stream ≡ 0) where
-      pub can-open : canOpen (feed t a) t ≡ true
+      pub can-open : canOpen (source t a) (feed t a) t ≡ true
       unfolding sightOf
       can-open = rw none at (through-seat (rw (setup, stranger)))
 

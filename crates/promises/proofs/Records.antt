@@ -27,9 +27,9 @@ use Rattle.satbox.specs.Calls.{requested}
 use Rattle.serving.specs.declared.opening.Client.{Client}
 use Rattle.closings.proofs.Keeping.{Whole}
 use Rattle.serving.proofs.OpeningKeeps.{row}
-use Rattle.serving.proofs.Branching.{merging-feed}
+use Rattle.serving.proofs.Branching.{merging-feed, merging-src}
 use Rattle.closings.proofs.Leaving.{leaving, joiner-records, owner-records}
-use Rattle.promises.proofs.Passing.{Changing, served-by, feed, can-join, can-open}
+use Rattle.promises.proofs.Passing.{Changing, served-by, source, feed, can-join, can-open, new-merged}
 use Rattle.promises.proofs.Serving.{denied-still}
 use Rattle.promises.proofs.Requests.{answered-by, answered-still}
 
@@ -109,8 +109,9 @@ module _ (t : SatBox) (a : Asked) (l : Lists) (client : Client) where
         opened-records w =
             let m = merging t a l .stream in
             let f : m .frontend ≡ feed t a = merging-feed t a l client (sightOf t a) refl none in
+            let g : m .values .src ≡ source t a = merging-src t a l client (sightOf t a) refl none (new-merged t a l changing setup stranger none) in
             let y = can-open t a l changing setup stranger none in
-            rw (opened-is, f, y, getD-set-same (t .streams) (first isDead (t .streams)) m pastStream (row (feed t a) t y w), f)
+            rw (opened-is, f, g, y, getD-set-same (t .streams) (first isDead (t .streams)) m pastStream (row (source t a) (feed t a) t y w), f)
 
     -- THOSE OF A CLOSING, "cause 1 teardown", where it is a TEARDOWN
     module _ (teardown : a .method ≡ Teardown) where

@@ -37,7 +37,7 @@ use Rattle.serving.proofs.OpeningKeeps.{Proper, joining-whole, feed-range, open
 use Rattle.serving.proofs.Passing.{Untested, named-needed, named-closable, own-live}
 use Rattle.serving.proofs.Branching.{merging-new, merging-live}
 use Rattle.satbox.proofs.RequestLaws.{grant-passes}
-use Rattle.promises.proofs.Passing.{Changing, served-by, tears-closable, through-port, feed, through-merged, can-open, new-merged}
+use Rattle.promises.proofs.Passing.{Changing, served-by, tears-closable, through-port, source, feed, through-merged, through-reached, can-open, new-merged}
 
 -- a session that keeps its number, its stream, and whether it owns it
 pub record Alike (s u : Session) : Type 0 where
@@ -53,7 +53,7 @@ replaced-whole place s t w k good =
     record {
       formed =
           record {
-            sizes = w .formed .sizes;
+            settings = w .formed .settings;
             seats =
                 seats-alike (t .sessions) (pastStream ∷ t .streams) (w .formed .seats) place s (k .number) (k .stream) (k .owner);
             rows = w .formed .rows;
@@ -153,7 +153,7 @@ module _ (t : SatBox) (a : Asked) (l : Lists) (client : Client) (w : Whole t) (f
     retuned-whole : merges (sightOf t a) ≡ true → Whole (restreamed (a .stream) (merging t a l .stream) t)
     retuned-whole e =
         let o = ap (λ (c : Change). c .outcome) (sym is-merging) ∙ through-merged t a l q e in
-        rw is-merging (merged-whole (a .stream) (a .codes) (l .pids) (l .delpids) (l .addpids) t w live (fit .codes) o)
+        rw is-merging (merged-whole (a .stream) (a .codes) (l .pids) (l .delpids) (l .addpids) t w live (fit .codes) (through-reached t a l q e (λ z. live (ap (λ k. streamOf t k .frontend) z))) o)
 
     -- and the session is changed in its place, where nothing else was
     changed-whole : (u : SatBox) → Whole u → sessionAt u (sightOf t a .place) ≡ sightOf t a .session → Whole (withSession (sightOf t a .place) (seatAfter (sightOf t a)) u)
@@ -180,7 +180,7 @@ module _ (t : SatBox) (a : Asked) (l : Lists) (client : Client) (w : Whole t) (f
       pub new-sound : a .stream ≡ 0 → isSound (t .settings .frontends) (merging t a l .stream) ≡ true
       unfolding sightOf
       new-sound none =
-          let f = feed-range (feed t a) t (can-open t a l q setup stranger none) in
+          let f = feed-range (source t a) (feed t a) t (can-open t a l q setup stranger none) in
           let e = merging-new t a l client (sightOf t a) refl none in
           rw e
           (merge-sound (blank (feed t a)) (a .codes) (l .pids) (l .delpids) (l .addpids) (t .settings .frontends) (blank-sound (t .settings .frontends) (feed t a) (f .0) (f .1))

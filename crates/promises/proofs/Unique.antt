@@ -196,8 +196,17 @@ stream-merge κs a x y v w = same
 pub table-fresh : Unique table.SatBox.fresh.ended table.SatBox.fresh.Reads.Post
 table-fresh κs a x y v w = same
 
-pub table-are-sizes : Unique table.are_sizes.ended table.are_sizes.Reads.Post
-table-are-sizes κs a x y v w = same
+pub table-are-settings : Unique table.are_settings.ended table.are_settings.Reads.Post
+table-are-settings κs a x y v w = same
+
+pub table-has : Unique table.has.ended table.has.Reads.Post
+table-has κs a x y v w = same
+
+pub table-size-of : Unique table.size_of.ended table.size_of.Reads.Post
+table-size-of κs a x y v w = same
+
+pub table-set-of : Unique table.set_of.ended table.set_of.Reads.Post
+table-set-of κs a x y v w = same
 
 pub table-is-among : Unique table.is_among.ended table.is_among.Reads.Post
 table-is-among κs a x y v w = same
@@ -233,8 +242,8 @@ finding-owns κs a x y v w = same
 pub finding-is-held : Unique finding.is_held.ended finding.is_held.Reads.Post
 finding-is-held κs a x y v w = same
 
-pub finding-lowest-frontend : Unique finding.lowest_frontend.ended finding.lowest_frontend.Reads.Post
-finding-lowest-frontend κs a x y v w = same
+pub finding-choice : Unique finding.choice.ended finding.choice.Reads.Post
+finding-choice κs a x y v w = same
 
 pub finding-draw : Unique finding.draw.ended finding.draw.Reads.Post
 finding-draw κs a x y v w = same

@@ -60,7 +60,7 @@ unfolding opening seated noting reseated restreamed
 opening-counted m client t =
     let id = lowestId (t .streams) in
     record {
-      held = cond-keeps (Held-on t) (canOpen (m .frontend) t) (seated 1 (guest 1 id client t) (restreamed id m t)) (nothing t) (λ e. refl) (λ e. omega arith);
+      held = cond-keeps (Held-on t) (canOpen (m .values .src) (m .frontend) t) (seated 1 (guest 1 id client t) (restreamed id m t)) (nothing t) (λ e. refl) (λ e. omega arith);
       sequence = opening-numbered m client t;
     }
 

@@ -14,6 +14,7 @@ const SETTINGS: Settings = Settings {
     size: 1024,
     frontends: 2,
     spare: 0,
+    reach: [15, 15, 0, 0, 0, 0, 0, 0],
 };
 
 // 192.168.178.39

@@ -1,24 +1,29 @@
 -- A table that is well formed stays so: a fresh box is, and whatever a tick, a collection, a merged query, an opening or a closing leaves.
 -- Assumes nothing.
 use mathlib.Core.Path.{_≡_, refl, _∙_, ap}
-use mathlib.Core.Bool.{true}
+use mathlib.Core.Bool.{true, _||_}
 use mathlib.Core.List.{List, _∷_}
 use Prim.Native.Nat.{ℕ}
 use native.Mathlib.Omega.{arith}
+use lib.ListN.{getD}
+use borrow.Author.Tests.{eq-eqb, ne-eqb}
+use Rattle.scan.proofs.Bools.{and-both, both, or-second, or-right, Same, same, other, sames}
+use Rattle.stream.specs.Values.{given}
 use Rattle.stream.specs.Streams.{pastStream, isSound, mergeOf}
 use Rattle.stream.specs.Arrays.{areFit}
 use Rattle.stream.specs.declared.Stream.{Stream}
 use Rattle.stream.specs.declared.Outcome.the-variants.{Merged}
-use Rattle.stream.proofs.Keeping.{merge-sound, merge-frontend}
-use Rattle.table.specs.Table.{streamOf}
-use Rattle.table.specs.Formed.{areSizes}
+use Rattle.stream.proofs.Keeping.{merge-sound, merge-frontend, merge-src}
+use Rattle.table.specs.Table.{streamOf, isDead}
+use Rattle.table.specs.Reach.{has, setOf}
+use Rattle.table.specs.Formed.{areSettings, isPlaced}
 use Rattle.table.specs.Made.{fresh}
 use Rattle.table.specs.declared.Settings.{Settings}
 use Rattle.table.specs.declared.SatBox.{SatBox}
 use Rattle.table.specs.declared.Outcome.{Outcome}
 use Rattle.table.specs.declared.Outcome.the-variants.{Done, Refused}
 use Rattle.table.proofs.Rules.{formed}
-use Rattle.table.proofs.Changes.{seats-fed, sound-at, rows-fed, by-id}
+use Rattle.table.proofs.Changes.{seats-fed, placed-at, rows-fed, by-id}
 use Rattle.table.proofs.Fresh.{fresh-formed}
 use Rattle.closings.specs.Closing.{restreamed, sweeping, atClock}
 use Rattle.satbox.specs.Calls.{ifDone, ticked, tickOutcome, emptied, collected, collectOutcome}
@@ -26,7 +31,7 @@ use Rattle.closings.proofs.Closings.{with-length}
 use Rattle.closings.proofs.Keeping.{Whole, swept-whole, clock-whole}
 
 -- A FRESH BOX
-pub fresh-whole : (s : Settings) → areSizes s ≡ true → Whole (fresh s)
+pub fresh-whole : (s : Settings) → areSettings s ≡ true → Whole (fresh s)
 fresh-whole s e = record { formed = formed (fresh s) (fresh-formed s e); places = refl; rows = refl }
 
 -- a call that was refused leaves its table alone
@@ -49,7 +54,7 @@ emptied-whole t w =
     record {
       formed =
           record {
-            sizes = w .formed .sizes;
+            settings = w .formed .settings;
             seats = w .formed .seats;
             rows = w .formed .rows;
             proper = w .formed .proper;
@@ -64,15 +69,15 @@ unfolding collected
 collect-whole t j b w = done-keeps (collectOutcome t j b) t (emptied t) w (emptied-whole t w)
 
 -- A QUERY MERGED into a live stream, which keeps its frontend
-pub restreamed-whole : (id : ℕ) (m : Stream) (t : SatBox) → Whole t → (id ≡ 0 → ⊥) → isSound (t .settings .frontends) m ≡ true → m .frontend ≡ streamOf t id .frontend → Whole (restreamed id m t)
+pub restreamed-whole : (id : ℕ) (m : Stream) (t : SatBox) → Whole t → (id ≡ 0 → ⊥) → isPlaced (t .settings) m ≡ true → m .frontend ≡ streamOf t id .frontend → Whole (restreamed id m t)
 unfolding restreamed
 restreamed-whole id m t w h good e =
     record {
       formed =
           record {
-            sizes = w .formed .sizes;
+            settings = w .formed .settings;
             seats = rw (by-id (t .streams) id m h) (seats-fed (t .sessions) (pastStream ∷ t .streams) (w .formed .seats) id m e);
-            rows = rows-fed (t .settings .frontends) (t .streams) (w .formed .rows) id m good e;
+            rows = rows-fed (t .settings) (t .streams) (w .formed .rows) id m good e;
             proper = w .formed .proper;
             fits = w .formed .fits;
           };
@@ -80,9 +85,20 @@ restreamed-whole id m t w h good e =
       rows = with-length id m (t .streams) ∙ w .rows;
     }
 
-pub merged-whole : (id : ℕ) (codes pids delpids addpids : List ℕ) (t : SatBox) → Whole t → (streamOf t id .frontend ≡ 0 → ⊥) → areFit codes ≡ true → mergeOf (streamOf t id) codes pids delpids addpids .outcome ≡ Merged
-    → Whole (restreamed id (mergeOf (streamOf t id) codes pids delpids addpids .stream) t)
-merged-whole id codes pids delpids addpids t w live fit e =
-    restreamed-whole id (mergeOf (streamOf t id) codes pids delpids addpids .stream) t w (λ q. live (ap (λ k. streamOf t k .frontend) q))
-    (merge-sound (streamOf t id) codes pids delpids addpids (t .settings .frontends) (sound-at (t .settings .frontends) (t .streams) (w .formed .rows) id) live fit e)
-    (merge-frontend (streamOf t id) codes pids delpids addpids)
+module _ (id : ℕ) (codes pids delpids addpids : List ℕ) (t : SatBox) (w : Whole t) (live : streamOf t id .frontend ≡ 0 → ⊥) (fit : areFit codes ≡ true)
+    (reached : (getD codes 0 0 ≡ 0 → ⊥) → has (setOf (t .settings) (streamOf t id .frontend)) (getD codes 0 0) ≡ true)
+    (e : mergeOf (streamOf t id) codes pids delpids addpids .outcome ≡ Merged) where
+  was : (isSound (t .settings .frontends) (streamOf t id) ≡ true) × (isDead (streamOf t id) || has (setOf (t .settings) (streamOf t id .frontend)) (streamOf t id .values .src) ≡ true)
+  was = and-both _ _ (placed-at (t .settings) (t .streams) (w .formed .rows) id)
+
+  -- a src that is given is reached, and so is the one that was there
+  reached-by : Same (getD codes 0 0) 0 → has (setOf (t .settings) (streamOf t id .frontend)) (given (getD codes 0 0) (streamOf t id .values .src)) ≡ true
+  reached-by (same q) = rw (eq-eqb (getD codes 0 0) 0 q) (or-second _ _ (was .1) (ne-eqb _ 0 live))
+  reached-by (other q) = rw (ne-eqb (getD codes 0 0) 0 q) (reached q)
+
+  pub merged-whole : Whole (restreamed id (mergeOf (streamOf t id) codes pids delpids addpids .stream) t)
+  merged-whole =
+      restreamed-whole id (mergeOf (streamOf t id) codes pids delpids addpids .stream) t w (λ q. live (ap (λ k. streamOf t k .frontend) q))
+      (both (merge-sound (streamOf t id) codes pids delpids addpids (t .settings .frontends) (was .0) live fit e)
+      (or-right (isDead (mergeOf (streamOf t id) codes pids delpids addpids .stream)) (rw (merge-frontend (streamOf t id) codes pids delpids addpids, merge-src (streamOf t id) codes pids delpids addpids e) (reached-by (sames _ 0)))))
+      (merge-frontend (streamOf t id) codes pids delpids addpids)

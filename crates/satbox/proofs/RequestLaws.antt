@@ -32,11 +32,11 @@ use Rattle.steps.specs.Sights.{Asked, Lists, askedOf, listsOf, sightOf}
 use Rattle.steps.specs.Steps.{isPassed, isNamed, tableCase}
 use Rattle.steps.specs.Replies.{replyText}
 use Rattle.steps.specs.Handed.{replyTo}
-use Rattle.steps.specs.declared.cases.Case.the-variants.{Passed, Reading, Combination, TooManyPids, Full}
+use Rattle.steps.specs.declared.cases.Case.the-variants.{Passed, Reading, Combination, TooManyPids, NotReached, Full}
 use Rattle.steps.proofs.ReplyLaws.{Follows, follows-passed, follows-refused, isReading, unread-chain, table-unread, reply-told, Numbers, reply-fits}
 use Rattle.closings.specs.Does.{Does}
 use Rattle.closings.specs.Closing.{swept, sweeping, atClock, bytesOf}
-use Rattle.serving.specs.Serving.{Serving, merging, merges, mergeCase, isOpening, canSeat, caseOf, denied, grant, served, clientOf, answered}
+use Rattle.serving.specs.Serving.{Serving, merging, merges, mergeCase, isUnreached, isOpening, canSeat, caseOf, denied, grant, served, clientOf, answered}
 use Rattle.serving.specs.Turns.{changeCase, performed, TurnIs}
 use Rattle.satbox.specs.Calls.{_else_andThen_, ifDone, requestOutcome, requested, answerOf, replied, repliedInto, repliedJournal}
 use Rattle.satbox.specs.Branches.{Responds}
@@ -54,7 +54,8 @@ use Rattle.satbox.proofs.Kept.{sweeping-whole}
 change-unread : (t : SatBox) (a : Asked) (l : Lists) → isReading (changeCase t a l) ≡ false
 change-unread t a l =
     unread-chain (merges (sightOf t a) && not (isPassed (mergeCase (merging t a l .outcome)))) (mergeCase (merging t a l .outcome)) _ (by (merging t a l .outcome))
-    (unread-chain (isOpening (sightOf t a) && not (canSeat t (sightOf t a))) Full Passed refl refl)
+    (unread-chain (merges (sightOf t a) && (not (eqb (a .stream) 0) && isUnreached (sightOf t a))) NotReached _ refl
+    (unread-chain (isOpening (sightOf t a) && not (canSeat t (sightOf t a))) Full Passed refl refl))
   where
     by : (o : Merge) → isReading (mergeCase o) ≡ false
     by Merged = refl

@@ -2,12 +2,13 @@
 use Prim.Native.Nat.{ℕ, _+_, _*_}
 use mathlib.Core.Bool.{Bool, not, _&&_, cond, _||_}
 use lib.Dec.{leb, ltb, eqb}
-use lib.ListN.{length, getD, set}
-use Rattle.scan.specs.Lists.{isBetween, _gives_or_}
+use lib.ListN.{length, set}
+use Rattle.scan.specs.Lists.{_gives_or_}
 use Rattle.journal.specs.Records.{recordSize}
 use Rattle.stream.specs.declared.Stream.{Stream}
 use Rattle.table.specs.Table.{openCount, streamOf, isLive, noSession, owns, boxWith, sessionWith}
-use Rattle.finding.specs.Finding.{lowestPlace, lowestId, isHeld, drawn, lowestFrontend}
+use Rattle.table.specs.Reach.{has}
+use Rattle.finding.specs.Finding.{lowestPlace, lowestId, canFeed, choice, drawn}
 use Rattle.table.specs.declared.Session.{Session}
 use Rattle.table.specs.declared.SatBox.{SatBox}
 use Rattle.closings.specs.Closing.{Did, when, restreamed, noting, nothing, closing}
@@ -18,6 +19,7 @@ use Rattle.aim.specs.Aim.{methodNumber}
 use Rattle.aim.specs.declared.Method.{Method}
 use Rattle.aim.specs.declared.Method.the-variants.{Options, Setup, Play, Teardown, Other}
 use Rattle.reader.specs.Request.{requestRefusal}
+use Rattle.stream.specs.Values.{given}
 use Rattle.stream.specs.Streams.{blank, mergeOf}
 use Rattle.stream.specs.declared.Change.{Change}
 use Rattle.stream.specs.declared.Outcome.{Outcome}
@@ -26,7 +28,7 @@ use Rattle.steps.specs.Sights.{Asked, Lists, askedOf, listsOf, portOf, sightOf}
 use Rattle.steps.specs.Steps.{isPassed, isSetup, isNamed, tableCase}
 use Rattle.steps.specs.declared.Sight.{Sight}
 use Rattle.steps.specs.declared.cases.Case.{Case}
-use Rattle.steps.specs.declared.cases.Case.the-variants.{Passed, Combination, TooManyPids, Full, Reading}
+use Rattle.steps.specs.declared.cases.Case.the-variants.{Passed, Combination, TooManyPids, NotReached, Full, Reading}
 
 -- not "no free session place"
 abbrev pub hasPlace : SatBox → Bool
@@ -35,10 +37,6 @@ hasPlace t = ltb (lowestPlace (t .sessions)) (length (t .sessions))
 -- not "bytes held + 16 × open + 32 > C"
 abbrev pub hasRoom : SatBox → Bool
 hasRoom t = leb (t .held + recordSize * openCount t + 2 * recordSize) (t .settings .size)
-
--- not "a new stream whose fe is held, or with no fe and no frontend free": with none free the lowest is past the last
-abbrev pub hasFrontend : ℕ → SatBox → Bool
-hasFrontend f t = isBetween 1 (t .settings .frontends) f && not (isHeld f (t .streams))
 
 -- "Its session number is the first non-zero number not open, counting up from the draw"; "A session keeps the client's address from its
 -- opening"; an opening sets "the last time to the clock"
@@ -57,20 +55,25 @@ canJoin id t = hasPlace t && (isLive (streamOf t id) && hasRoom t)
 unfoldable pub joining : ℕ → Client → SatBox → Did
 joining id client t = when (canJoin id t) (seatingAs 2 (guest 0 id client t) t) t
 
--- "A new stream takes the lowest free ID": kind 1
-abbrev pub canOpen : ℕ → SatBox → Bool
-canOpen f t = hasPlace t && (hasFrontend f t && hasRoom t)
+-- "A new stream takes the lowest free ID": kind 1. Order 1 of document 02: not "no free frontend reaches the src, or the named one is held or does
+-- not reach it"; where none does, the choice is 0, which is none of the box's
+abbrev pub canOpen : ℕ → ℕ → SatBox → Bool
+canOpen source f t = hasPlace t && (canFeed t source f && hasRoom t)
 
 unfoldable pub opening : Stream → Client → SatBox → Did
-opening m client t = when (canOpen (m .frontend) t) (seatingAs 1 (guest 1 (lowestId (t .streams)) client t) (restreamed (lowestId (t .streams)) m t)) t
+opening m client t = when (canOpen (m .values .src) (m .frontend) t) (seatingAs 1 (guest 1 (lowestId (t .streams)) client t) (restreamed (lowestId (t .streams)) m t)) t
 
--- a new stream takes fe "and, without fe, the lowest free frontend"
-abbrev pub feedOf : SatBox → ℕ → ℕ
-feedOf t fe = cond (eqb fe 0) (lowestFrontend (t .settings .frontends) (t .streams)) fe
+-- the src of a new stream: "1" where it is left out
+abbrev pub sourceOf : Sight → ℕ
+sourceOf v = given (v .src) 1
+
+-- a new stream takes fe and, "without fe", the choice of order 1
+abbrev pub feedOf : SatBox → Sight → ℕ
+feedOf t v = cond (eqb (v .fe) 0) (choice t (sourceOf v)) (v .fe)
 
 -- what a query is merged into: a new stream, or the one that is named
 abbrev pub unmerged : SatBox → Asked → Stream
-unmerged t a = cond (eqb (a .stream) 0) (blank (feedOf t (getD (a .codes) 1 0))) (streamOf t (a .stream))
+unmerged t a = cond (eqb (a .stream) 0) (blank (feedOf t (sightOf t a))) (streamOf t (a .stream))
 
 unfoldable pub merging : SatBox → Asked → Lists → Change
 merging t a l = mergeOf (unmerged t a) (a .codes) (l .pids) (l .delpids) (l .addpids)
@@ -85,19 +88,24 @@ mergeCase Merged = Passed
 mergeCase Clash = Combination
 mergeCase TooMany = TooManyPids
 
+-- 17, by order 1: "a later src that the held frontend does not reach"
+abbrev pub isUnreached : Sight → Bool
+isUnreached v = not (eqb (v .src) 0) && not (has (v .reach) (v .src))
+
 -- an opening is a SETUP without a session
 abbrev pub isOpening : Sight → Bool
 isOpening v = isSetup (v .method) && not (isNamed v)
 
 -- what an opening takes is there: on a new stream, or on a live one
 abbrev pub canSeat : SatBox → Sight → Bool
-canSeat t v = cond (eqb (v .stream) 0) (canOpen (feedOf t (v .fe)) t) (canJoin (v .stream) t)
+canSeat t v = cond (eqb (v .stream) 0) (canOpen (sourceOf v) (feedOf t v) t) (canJoin (v .stream) t)
 
 -- THE CASE of a request that steps 1 to 10 let through: 11 to 15; 16 and 17, where its query is merged; 18: "Opening: .."
 unfoldable pub caseOf : SatBox → Asked → Lists → Case
 caseOf t a l =
     not (isPassed (tableCase (sightOf t a))) gives tableCase (sightOf t a) or
     (merges (sightOf t a) && not (isPassed (mergeCase (merging t a l .outcome)))) gives mergeCase (merging t a l .outcome) or
+    (merges (sightOf t a) && (not (eqb (a .stream) 0) && isUnreached (sightOf t a))) gives NotReached or
     (isOpening (sightOf t a) && not (canSeat t (sightOf t a))) gives Full or
     Passed
 

@@ -29,10 +29,10 @@ use Rattle.steps.specs.Steps.{isPassed, isNamed, tableCase}
 use Rattle.steps.specs.Sights.{sightOf, Asked, Lists}
 use Rattle.steps.specs.declared.Sight.{Sight}
 use Rattle.steps.specs.declared.cases.Case.{Case}
-use Rattle.steps.specs.declared.cases.Case.the-variants.{Passed, Combination, TooManyPids, Full, Reading}
+use Rattle.steps.specs.declared.cases.Case.the-variants.{Passed, Combination, TooManyPids, NotReached, Full, Reading}
 use Rattle.closings.specs.Closing.{Did, nothing, restreamed, noting, closing}
 use Rattle.closings.specs.Does.{Closable}
-use Rattle.serving.specs.Serving.{hasPlace, hasRoom, guest, canOpen, Serving, feedOf, merging, merges, mergeCase, isOpening, canSeat, withSession, refreshed, seatAfter}
+use Rattle.serving.specs.Serving.{hasPlace, hasRoom, guest, canOpen, Serving, sourceOf, feedOf, merging, merges, mergeCase, isUnreached, isOpening, canSeat, withSession, refreshed, seatAfter}
 use Rattle.serving.specs.declared.opening.Client.{Client}
 use Rattle.serving.specs.declared.opening.Offer.{Offer}
 use Rattle.serving.specs.declared.Turn.{Turn}
@@ -42,6 +42,7 @@ use Rattle.scan.specs.Lists.{_gives_or_}
 abbrev pub changeCase : SatBox → Asked → Lists → Case
 changeCase t a l =
     (merges (sightOf t a) && not (isPassed (mergeCase (merging t a l .outcome)))) gives mergeCase (merging t a l .outcome) or
+    (merges (sightOf t a) && (not (eqb (a .stream) 0) && isUnreached (sightOf t a))) gives NotReached or
     (isOpening (sightOf t a) && not (canSeat t (sightOf t a))) gives Full or
     Passed
 
@@ -68,13 +69,13 @@ guestOf client number clock id owner =
       playing = 0;
     }
 
-abbrev pub newOffer : SatBox → ℕ → Client → Offer
-newOffer t feed client =
+abbrev pub newOffer : SatBox → ℕ → ℕ → Client → Offer
+newOffer t source feed client =
     record {
       seat = guest 1 (lowestId (t .streams)) client t;
       place = lowestPlace (t .sessions);
       feed = feed;
-      whole = canOpen feed t;
+      whole = canOpen source feed t;
     }
 
 abbrev pub liveOffer : SatBox → ℕ → ℕ → Client → Offer
@@ -92,7 +93,7 @@ isSmall n = cond (ltb n 256) n 0
 
 abbrev pub offerOf : SatBox → Sight → Client → Offer
 offerOf t v client =
-    cond (eqb (v .stream) 0) (newOffer t (isSmall (feedOf t (v .fe))) client) (liveOffer t (isSmall (v .stream)) (v .frontend) client)
+    cond (eqb (v .stream) 0) (newOffer t (sourceOf v) (isSmall (feedOf t v)) client) (liveOffer t (isSmall (v .stream)) (v .frontend) client)
 
 -- TURNS: a refusal; a session changed in its place; one whose stream is set too; one that opens, where nothing is lacking; one that closes
 abbrev pub deniedAs : Case → Turn
@@ -130,7 +131,9 @@ openedBy c o = ifMerged (c .outcome) (seatedAs o 1 (o .seat .stream) (c .stream)
 
 unfoldable pub retunedBy : Sight → Change → Turn
 retunedBy v c =
-    cond (owns (v .stream) (v .session)) (ifMerged (c .outcome) (retunedAs v (c .stream))) (reseatedAs (v .place) (seatAfter v) (seatAfter v))
+    cond (owns (v .stream) (v .session))
+    (ifMerged (c .outcome) (cond (isUnreached v) (deniedAs NotReached) (retunedAs v (c .stream))))
+    (reseatedAs (v .place) (seatAfter v) (seatAfter v))
 
 unfoldable pub setUpBy : Sight → Change → Offer → Turn
 setUpBy v c o = cond (isNamed v) (retunedBy v c) (cond (eqb (v .stream) 0) (openedBy c o) (seatedAs o 2 0 noStream))

@@ -6,7 +6,7 @@ pub use opening::Client;
 pub use opening::Offer;
 pub use opening::offer_of;
 ghost use mathlib.Core.Path.{_≡_};
-ghost use Rattle.serving.specs.Serving.{refreshed, seatAfter};
+ghost use Rattle.serving.specs.Serving.{isUnreached, refreshed, seatAfter};
 ghost use Rattle.serving.specs.Turns.{atPort, playing, deniedAs, reseatedAs, seatedAs, leftAs, openedBy, retunedBy, setUpBy, turnBy};
 use aim::Method;
 use steps::Case;
@@ -121,6 +121,13 @@ fn after(v: Sight) -> Session
     }
 }
 
+// Whether the frontend held does not reach the src that is given.
+fn is_unreached(v: Sight) -> bool
+    ensures { λ r. ⌜ r ≡ isUnreached v ⌝ }
+{
+    !(v.src == 0) & !table::has(v.reach, v.src)
+}
+
 // A SETUP or a PLAY of an open session: its owner's query is merged into its stream.
 fn retune(v: Sight, change: Change) -> Turn
     ensures { λ x. ⌜ x ≡ retunedBy v change ⌝ }
@@ -135,6 +142,9 @@ fn retune(v: Sight, change: Change) -> Turn
         Outcome::Combination => deny(Case::Combination),
         Outcome::TooMany => deny(Case::TooManyPids),
         Outcome::Merged => {
+            if is_unreached(v) {
+                return deny(Case::NotReached);
+            }
             let stream = change.stream;
             Turn {
                 stream,

@@ -45,7 +45,7 @@ use Rattle.steps.specs.Replies.{grantedLines, replyText}
 use Rattle.steps.specs.Handed.{grantedKind, kindOf, replyTo}
 use Rattle.steps.specs.declared.Sight.{Sight}
 use Rattle.steps.specs.declared.cases.Case.{Case}
-use Rattle.steps.specs.declared.cases.Case.the-variants.{Passed, Reading, NoSession, NotLive, State, NotOwner, Transport, Combination, TooManyPids, Full}
+use Rattle.steps.specs.declared.cases.Case.the-variants.{Passed, Reading, NoSession, NotLive, State, NotOwner, Transport, Combination, TooManyPids, NotReached, Full}
 use Rattle.refusals.specs.Refusals.{readingRule}
 
 abbrev pub isReading : Case → Bool
@@ -58,6 +58,7 @@ isReading NotOwner = false
 isReading Transport = false
 isReading Combination = false
 isReading TooManyPids = false
+isReading NotReached = false
 isReading Full = false
 
 -- a case that what was read may have: its refusal, or where it has none any other
@@ -80,6 +81,7 @@ unread-keeps P p q NotOwner n = q NotOwner (refl, λ _. refl, λ _. refl)
 unread-keeps P p q Transport n = q Transport (refl, λ _. refl, λ _. refl)
 unread-keeps P p q Combination n = q Combination (refl, λ _. refl, λ _. refl)
 unread-keeps P p q TooManyPids n = q TooManyPids (refl, λ _. refl, λ _. refl)
+unread-keeps P p q NotReached n = q NotReached (refl, λ _. refl, λ _. refl)
 unread-keeps P p q Full n = q Full (refl, λ _. refl, λ _. refl)
 
 -- only one of them passes
@@ -263,6 +265,7 @@ status-small NotOwner = omega arith
 status-small Transport = omega arith
 status-small Combination = omega arith
 status-small TooManyPids = omega arith
+status-small NotReached = omega arith
 status-small Full = omega arith
 
 cseq-small : (s : List ℕ) → Is-read Is-small (cseqOf s)

@@ -22,7 +22,7 @@ use Rattle.steps.specs.Sights.{Asked, Lists, isAbsent, portOf}
 use Rattle.steps.specs.declared.Sight.{Sight}
 use Rattle.steps.specs.Steps.{ruleOf, isPassed}
 use Rattle.steps.specs.declared.cases.Case.{Case}
-use Rattle.steps.specs.declared.cases.Case.the-variants.{Passed, Reading, NoSession, NotLive, State, NotOwner, Transport, Combination, TooManyPids, Full}
+use Rattle.steps.specs.declared.cases.Case.the-variants.{Passed, Reading, NoSession, NotLive, State, NotOwner, Transport, Combination, TooManyPids, NotReached, Full}
 use Rattle.refusals.specs.Refusals.{readingRule}
 
 abbrev pub askedBy : Request → Asked
@@ -37,18 +37,20 @@ askedBy r =
     }
 
 -- what it asks beside what was looked up for it
-abbrev pub sighted : Asked → ℕ → Session → ℕ → Sight
-sighted a place session frontend =
+abbrev pub sighted : Asked → ℕ → Session → ℕ → ℕ → Sight
+sighted a place session frontend reach =
     record {
       method = a .method;
       absent = isAbsent (a .session);
       stream = a .stream;
       fe = getD (a .codes) 1 0;
+      src = getD (a .codes) 0 0;
       query = a .query;
       port = portOf (a .transport);
       place = place;
       session = session;
       frontend = frontend;
+      reach = reach;
     }
 
 abbrev pub queryBy : List ℕ → Request → List ℕ
@@ -93,6 +95,7 @@ kindOf NotOwner method = kind.Bare
 kindOf Transport method = kind.Bare
 kindOf Combination method = kind.Bare
 kindOf TooManyPids method = kind.Bare
+kindOf NotReached method = kind.Bare
 kindOf Full method = kind.Bare
 
 -- the word that it repeats is the host on 200, and else the Require value

@@ -16,6 +16,7 @@ use Rattle.reader.specs.declared.fields.Transport.{Transport}
 use Rattle.reader.specs.declared.fields.Session.the-variants.{Absent, Malformed, Named}
 use Rattle.reader.specs.declared.fields.Transport.the-variants.{Other, Port}
 use Rattle.table.specs.Table.{hasNumber, sessionAt, streamOf}
+use Rattle.table.specs.Reach.{setOf}
 use Rattle.scan.specs.Lists.{first}
 use Rattle.table.specs.declared.SatBox.{SatBox}
 use Rattle.steps.specs.declared.Sight.{Sight}
@@ -73,7 +74,8 @@ abbrev pub portOf : Transport → ℕ
 portOf Other = 0
 portOf (Port port) = port
 
--- a request beside what is looked up for it: a place, the session there, and a frontend; fe stands at place 1 of document 01's table
+-- a request beside what is looked up for it: a place, the session there, and a frontend with, order 1, what it reaches; src and fe stand at places
+-- 0 and 1 of document 01's table
 unfoldable pub sightOf : SatBox → Asked → Sight
 sightOf t a =
     record {
@@ -81,9 +83,11 @@ sightOf t a =
       absent = isAbsent (a .session);
       stream = a .stream;
       fe = getD (a .codes) 1 0;
+      src = getD (a .codes) 0 0;
       query = a .query;
       port = portOf (a .transport);
       place = placeNamed (a .session) t;
       session = sessionAt t (placeNamed (a .session) t);
       frontend = streamOf t (a .stream) .frontend;
+      reach = setOf (t .settings) (streamOf t (a .stream) .frontend);
     }

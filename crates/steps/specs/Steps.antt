@@ -3,7 +3,7 @@ use Prim.Native.Nat.{ℕ}
 use lib.Dec.{eqb, ltb}
 use mathlib.Core.Bool.{Bool, true, false, not, _&&_, _||_}
 use Rattle.steps.specs.declared.cases.Case.{Case}
-use Rattle.steps.specs.declared.cases.Case.the-variants.{Passed, Reading, NoSession, NotLive, State, NotOwner, Transport, Combination, TooManyPids, Full}
+use Rattle.steps.specs.declared.cases.Case.the-variants.{Passed, Reading, NoSession, NotLive, State, NotOwner, Transport, Combination, TooManyPids, NotReached, Full}
 use Rattle.refusals.specs.Refusals.{readingRule}
 use Rattle.aim.specs.Aim.{methodNumber}
 use Rattle.aim.specs.declared.Method.{Method}
@@ -21,6 +21,7 @@ ruleOf NotOwner = (14, 403)
 ruleOf Transport = (15, 461)
 ruleOf Combination = (16, 403)
 ruleOf TooManyPids = (17, 503)
+ruleOf NotReached = (17, 503)
 ruleOf Full = (18, 503)
 
 abbrev pub isPassed : Case → Bool

@@ -16,6 +16,8 @@ pub enum Case {
     Transport,
     Combination,
     TooManyPids,
+    // The frontend held does not reach the src.
+    NotReached,
     // No place, no frontend or no room for an opening.
     Full,
 }
@@ -34,6 +36,7 @@ fn step(case: Case) -> u8
         Case::Transport => 15,
         Case::Combination => 16,
         Case::TooManyPids => 17,
+        Case::NotReached => 17,
         Case::Full => 18,
     }
 }
@@ -52,6 +55,7 @@ pub(crate) fn status(case: Case) -> u16
         Case::Transport => 461,
         Case::Combination => 403,
         Case::TooManyPids => 503,
+        Case::NotReached => 503,
         Case::Full => 503,
     }
 }

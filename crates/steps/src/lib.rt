@@ -16,19 +16,22 @@ use reader::Request;
 use reader::Transport;
 use table::Session;
 
-// What steps 11 to 15 look at: of the request its method, whether it sends a Session header, the stream that it names and the fe that it
-// gives, whether it has a query, and its port, each 0 where there is none; of the table the place of the open session that it names, 32
-// where it names none, that session, and the frontend that the stream holds, 0 where it is not live.
+// What steps 11 to 15, and 17 for a src, look at: of the request its method, whether it sends a Session header, the stream that it names, the
+// fe and the src that it gives, whether it has a query, and its port, each 0 where there is none; of the table the place of the open session
+// that it names, 32 where it names none, that session, the frontend that the stream holds, 0 where it is not live, and the sources that this
+// frontend reaches.
 pub struct Sight {
     pub method: Method,
     pub absent: bool,
     pub stream: u32,
     pub fe: u32,
+    pub src: u32,
     pub query: bool,
     pub port: u32,
     pub place: usize,
     pub session: Session,
     pub frontend: u8,
+    pub reach: u8,
 }
 
 fn is_absent(sent: reader::Session) -> bool
@@ -61,9 +64,10 @@ fn port_of(transport: Transport) -> u32
     }
 }
 
-// Gathers what the steps look at: of the table the place of the session that is named, that session, and the frontend of the stream.
-pub fn sight_of(r: Request, place: usize, session: Session, frontend: u8) -> Sight
-    ensures { λ v. ⌜ v ≡ sighted (askedBy r) place session frontend ⌝ }
+// Gathers what the steps look at: of the table the place of the session that is named, that session, and the frontend of the stream with
+// what it reaches.
+pub fn sight_of(r: Request, place: usize, session: Session, frontend: u8, reach: u8) -> Sight
+    ensures { λ v. ⌜ v ≡ sighted (askedBy r) place session frontend reach ⌝ }
 {
     let sent = r.session;
     let transport = r.transport;
@@ -75,11 +79,13 @@ pub fn sight_of(r: Request, place: usize, session: Session, frontend: u8) -> Sig
         absent: is_absent(sent),
         stream: r.stream,
         fe: codes[1],
+        src: codes[0],
         query: query.start < query.end,
         port: port_of(transport),
         place,
         session,
         frontend,
+        reach,
     }
 }
 

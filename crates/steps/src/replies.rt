@@ -50,6 +50,7 @@ fn kind_of(case: Case, method: Method) -> Kind
         Case::Transport => Kind::Bare,
         Case::Combination => Kind::Bare,
         Case::TooManyPids => Kind::Bare,
+        Case::NotReached => Kind::Bare,
         Case::Full => Kind::Bare,
     }
 }

@@ -13,7 +13,7 @@ use Rattle.scan.specs.Text.{cut}
 use Rattle.scan.proofs.Bools.{never, and-both, by-test, both}
 use Rattle.digits.specs.declared.Read.{Read}
 use Rattle.digits.specs.declared.Read.the-variants.{Value, Nothing}
-use Rattle.stream.specs.Values.{goTogether, merged}
+use Rattle.stream.specs.Values.{goTogether, given, merged}
 use Rattle.stream.specs.Pids.{added, removed, withNumber, numbersIn, obeyed, Choice, replaced, edited, chosen, choiceOf, isPadded, isChoice}
 use Rattle.stream.specs.Arrays.{readPid, areTooMany, laidOut, areFit, isLow, rises, numbersRead, addedAll}
 use Rattle.stream.specs.Streams.{isSound, changed, mergeOf}
@@ -166,6 +166,10 @@ module _ (m : Stream) (codes pids delpids addpids : List ℕ) where
             fine-choice m values
             (chosen-fine m codes pids delpids addpids (choice-fine m (l .choice))) (p .1);
       }))
+
+  pub merge-src : mergeOf m codes pids delpids addpids .outcome ≡ Merged → mergeOf m codes pids delpids addpids .stream .values .src ≡ given (getD codes 0 0) (m .values .src)
+  unfolding changed merged
+  merge-src e = ap (λ (x : Stream). x .values .src) (merge-is e)
 
   pub merge-frontend : mergeOf m codes pids delpids addpids .stream .frontend ≡ m .frontend
   unfolding mergeOf changed

@@ -10,15 +10,16 @@ use lib.Seq.{getD-set-other, getD-set-same}
 use borrow.Author.Tests.{ne-eqb, eq-eqb, eqb-true, eqb-false, not-true, leb-true, le-leb}
 use Rattle.scan.specs.Lists.{isBetween}
 use Rattle.scan.proofs.Bools.{never, and-both, Case, is, isnt, case, Same, same, other, sames, both}
-use Rattle.stream.specs.Streams.{noStream, pastStream, isSound}
+use Rattle.stream.specs.Streams.{noStream, pastStream, isSound, areZero}
 use Rattle.stream.specs.declared.Stream.{Stream}
-use Rattle.stream.proofs.Soundness.{none-sound}
+use Rattle.stream.specs.Values.{areNone}
 use Rattle.table.specs.Table.{count, noSession, hasNumber, isFree, isOpen, withStream, isOn, owns}
 use Rattle.table.proofs.Counts.{bit, bit-no, bit-yes, count-le, count-set, count-zero-at, count-set-le, count-set-same, cleared, count-cleared-le, count-cleared-same, count-cleared-none, all-cleared, once-set, getD-set-all, getD-set-alike, getD-set-here}
 use Rattle.table.proofs.Ids.{streamIn}
-use Rattle.table.specs.Formed.{isSeated, isBlank}
-use Rattle.table.proofs.Rules.{isProper, fed, Seats, Rows, AreProper, past-sound}
+use Rattle.table.specs.Formed.{isPlaced, isSeated, isBlank}
+use Rattle.table.proofs.Rules.{isProper, fed, Seats, Rows, AreProper, past-placed}
 use Rattle.table.specs.declared.Session.{Session}
+use Rattle.table.specs.declared.Settings.{Settings}
 
 -- a session on the stream of an ID, made none
 abbrev pub clear : ℕ → Session → Session
@@ -162,38 +163,42 @@ by-id ms (suc k) x h = refl
 pub seated-id : (l : List Session) (ms : List Stream) → Seats l (pastStream ∷ ms) → (i : ℕ) → (getD l i noSession .number ≡ 0 → ⊥) → getD l i noSession .stream ≡ 0 → ⊥
 seated-id l ms r i some q = seated-live l (pastStream ∷ ms) r i some (ap (λ k. streamIn ms k .frontend) q)
 
-module _ (frontends : ℕ) (ms : List Stream) (r : Rows frontends ms) where
-  sound-with : (id : ℕ) (x : Stream) → isSound frontends x ≡ true → (k : ℕ) → isSound frontends (getD (withStream id x ms) k pastStream) ≡ true
-  sound-with zero x good k = r .sound k
-  sound-with (suc i) x good k = getD-set-all (λ y. isSound frontends y ≡ true) ms i k x pastStream good (r .sound k)
+pub none-placed : (s : Settings) → isPlaced s noStream ≡ true
+unfolding isSound areZero areNone
+none-placed s = refl
+
+module _ (s : Settings) (ms : List Stream) (r : Rows s ms) where
+  placed-with : (id : ℕ) (x : Stream) → isPlaced s x ≡ true → (k : ℕ) → isPlaced s (getD (withStream id x ms) k pastStream) ≡ true
+  placed-with zero x good k = r .placed k
+  placed-with (suc i) x good k = getD-set-all (λ y. isPlaced s y ≡ true) ms i k x pastStream good (r .placed k)
 
   -- the stream of every ID
-  pub sound-at : (id : ℕ) → isSound frontends (streamIn ms id) ≡ true
-  sound-at zero = past-sound frontends
-  sound-at (suc k) = r .sound k
+  pub placed-at : (id : ℕ) → isPlaced s (streamIn ms id) ≡ true
+  placed-at zero = past-placed s
+  placed-at (suc k) = r .placed k
 
   -- A STREAM GOES
-  pub rows-freed : (id : ℕ) → Rows frontends (withStream id noStream ms)
+  pub rows-freed : (id : ℕ) → Rows s (withStream id noStream ms)
   rows-freed zero = r
   rows-freed (suc k) =
       record {
         feeds = λ f h. omega (arith, count-set-le (fed f) ms k noStream, bit-no (zero-ne f h), r .feeds f h);
-        sound = sound-with (suc k) noStream (none-sound frontends);
+        placed = placed-with (suc k) noStream (none-placed s);
       }
 
   -- A STREAM COMES, with a frontend that no other has
-  pub rows-opened : (id : ℕ) (x : Stream) → isSound frontends x ≡ true → count (fed (x .frontend)) ms ≡ 0 → Rows frontends (withStream id x ms)
+  pub rows-opened : (id : ℕ) (x : Stream) → isPlaced s x ≡ true → count (fed (x .frontend)) ms ≡ 0 → Rows s (withStream id x ms)
   rows-opened zero x good new = r
   rows-opened (suc k) x good new =
-      record { feeds = once-set (λ y. y .frontend) ms k x (r .feeds) new; sound = sound-with (suc k) x good }
+      record { feeds = once-set (λ y. y .frontend) ms k x (r .feeds) new; placed = placed-with (suc k) x good }
 
   -- A STREAM CHANGES, but keeps its frontend
-  pub rows-fed : (id : ℕ) (x : Stream) → isSound frontends x ≡ true → x .frontend ≡ streamIn ms id .frontend → Rows frontends (withStream id x ms)
+  pub rows-fed : (id : ℕ) (x : Stream) → isPlaced s x ≡ true → x .frontend ≡ streamIn ms id .frontend → Rows s (withStream id x ms)
   rows-fed zero x good e = r
   rows-fed (suc k) x good e =
       record {
         feeds = λ f h. rw (count-set-same (fed f) ms k x pastStream (rw e)) (r .feeds f h);
-        sound = sound-with (suc k) x good;
+        placed = placed-with (suc k) x good;
       }
 
 pub none-proper : (clock : ℕ) → isProper clock noSession ≡ true

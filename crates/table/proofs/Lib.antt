@@ -2,6 +2,7 @@ pub mod Places
 pub mod NumberLaws
 pub mod Counts
 pub mod Fresh
+pub mod Sets
 pub mod Rules
 pub mod Changes
 pub mod FreeIds

@@ -14,8 +14,9 @@ use Rattle.stream.specs.Values.{areNone}
 use Rattle.stream.specs.Streams.{pastStream, isSound, areZero}
 use Rattle.stream.specs.declared.Stream.{Stream}
 use Rattle.table.specs.Table.{count, areDistinct, noSession, hasNumber, isFree, openCount, streamOf, isDead, isLive, isOn, owns}
-use Rattle.table.specs.Formed.{areSizes, areOwned, isSeated, isBlank, wellFormed}
+use Rattle.table.specs.Formed.{areSettings, isPlaced, areOwned, isSeated, isBlank, wellFormed}
 use Rattle.table.specs.declared.Session.{Session}
+use Rattle.table.specs.declared.Settings.{Settings}
 use Rattle.table.specs.declared.SatBox.{SatBox}
 use Rattle.table.proofs.Counts.{all-at, at-all, all-count, count-map, count-zero-at, distinct-count, count-distinct, is-number}
 
@@ -42,14 +43,18 @@ pub record Seats (l : List Session) (ms : List Stream) : Type 0 where
   pub homes : (k : ℕ) → getD ms k pastStream .frontend ≡ 0 → count (isOn k) l ≡ 0
   pub owners : (k : ℕ) → (getD ms k pastStream .frontend ≡ 0 → ⊥) → count (owns k) l ≡ 1
 
--- the rules of the streams on a box with so many frontends
-pub record Rows (frontends : ℕ) (ms : List Stream) : Type 0 where
+-- the rules of the streams on a box with these settings
+pub record Rows (s : Settings) (ms : List Stream) : Type 0 where
   pub feeds : (f : ℕ) → (f ≡ 0 → ⊥) → count (fed f) ms ≤ 1
-  pub sound : (k : ℕ) → isSound frontends (getD ms k pastStream) ≡ true
+  pub placed : (k : ℕ) → isPlaced s (getD ms k pastStream) ≡ true
 
-pub past-sound : (frontends : ℕ) → isSound frontends pastStream ≡ true
+pub past-placed : (s : Settings) → isPlaced s pastStream ≡ true
 unfolding isSound areZero areNone
-past-sound frontends = refl
+past-placed s = refl
+
+-- of a stream's place, what holds by itself
+pub placed-sound : (s : Settings) (m : Stream) → isPlaced s m ≡ true → isSound (s .frontends) m ≡ true
+placed-sound s m e = and-both (isSound (s .frontends) m) _ e .0
 
 -- the rules of the sessions' own values
 abbrev pub AreProper : ℕ → List Session → Type 0
@@ -61,9 +66,9 @@ pub record Fits (held size n : ℕ) : Type 0 where
   pub bound : held + 16 * n ≤ size
 
 pub record WellFormed (t : SatBox) : Type 0 where
-  pub sizes : areSizes (t .settings) ≡ true
+  pub settings : areSettings (t .settings) ≡ true
   pub seats : Seats (t .sessions) (pastStream ∷ t .streams)
-  pub rows : Rows (t .settings .frontends) (t .streams)
+  pub rows : Rows (t .settings) (t .streams)
   pub proper : AreProper (t .clock) (t .sessions)
   pub fits : Fits (t .held) (t .settings .size) (openCount t)
 
@@ -108,16 +113,16 @@ module _ (t : SatBox) where
   pub formed : wellFormed t ≡ true → WellFormed t
   unfolding wellFormed
   formed e =
-      let a = and-both (areSizes (t .settings)) _ e in
+      let a = and-both (areSettings (t .settings)) _ e in
       let b = and-both (areDistinct (numbersOf (t .sessions))) _ (a .1) in
       let c = and-both (all (isHoused t) (t .sessions)) _ (b .1) in
       let d = and-both (areOwned (t .sessions) 1 (t .streams)) _ (c .1) in
       let f = and-both (areDistinct (frontendsOf (t .streams))) _ (d .1) in
-      let g = and-both (all (isSound (t .settings .frontends)) (t .streams)) _ (f .1) in
+      let g = and-both (all (isPlaced (t .settings)) (t .streams)) _ (f .1) in
       let h = and-both (all (isProper (t .clock)) (t .sessions)) _ (g .1) in
       let i = and-both (eqb (t .held % 16) 0) _ (h .1) in
       record {
-        sizes = a .0;
+        settings = a .0;
         seats =
             record {
               numbers = λ n z. rw (sym (count-map (is-number n) (λ s. s .number) (t .sessions))) (distinct-count (numbersOf (t .sessions)) (b .0) n z);
@@ -127,7 +132,7 @@ module _ (t : SatBox) where
         rows =
             record {
               feeds = λ n z. rw (sym (count-map (is-number n) (λ m. m .frontend) (t .streams))) (distinct-count (frontendsOf (t .streams)) (f .0) n z);
-              sound = λ k. all-at (isSound (t .settings .frontends)) (t .streams) k pastStream (past-sound (t .settings .frontends)) (g .0);
+              placed = λ k. all-at (isPlaced (t .settings)) (t .streams) k pastStream (past-placed (t .settings)) (g .0);
             };
         proper = λ k. all-at (isProper (t .clock)) (t .sessions) k noSession (unfold isBlank in refl) (h .0);
         fits = record { whole = eqb-true _ _ (i .0); bound = leb-true _ _ (i .1) };
@@ -136,11 +141,11 @@ module _ (t : SatBox) where
   pub formed-back : WellFormed t → wellFormed t ≡ true
   unfolding wellFormed
   formed-back r =
-      both (r .sizes)
+      both (r .settings)
       (both (count-distinct (numbersOf (t .sessions)) (λ n z. rw (count-map (is-number n) (λ s. s .number) (t .sessions)) (r .seats .numbers n z)))
       (both (at-all (isHoused t) (t .sessions) noSession (λ i. off-housed t (getD (t .sessions) i noSession) (λ dead. count-zero-at (isOn (getD (t .sessions) i noSession .stream)) (t .sessions) i noSession refl (r .seats .homes _ dead)) (case _) (case _)))
       (both (one-owned (t .sessions) 1 (t .streams) (λ k h. let n : 1 + k ≡ suc k = omega arith in rw n (r .seats .owners (suc k) h)))
       (both (count-distinct (frontendsOf (t .streams)) (λ n z. rw (count-map (is-number n) (λ m. m .frontend) (t .streams)) (r .rows .feeds n z)))
-      (both (at-all (isSound (t .settings .frontends)) (t .streams) pastStream (r .rows .sound))
+      (both (at-all (isPlaced (t .settings)) (t .streams) pastStream (r .rows .placed))
       (both (at-all (isProper (t .clock)) (t .sessions) noSession (r .proper))
       (both (eq-eqb _ _ (r .fits .whole)) (le-leb _ _ (r .fits .bound)))))))))

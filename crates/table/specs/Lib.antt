@@ -1,4 +1,5 @@
 pub mod Table
+pub mod Reach
 pub mod Formed
 pub mod Made
 pub mod Samples

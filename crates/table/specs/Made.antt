@@ -4,7 +4,8 @@ use mathlib.Core.Bool.{cond}
 use lib.ListN.{replicate}
 use Rattle.stream.specs.Streams.{noStream}
 use Rattle.table.specs.Table.{noSession}
-use Rattle.table.specs.Formed.{areSizes}
+use Rattle.table.specs.Formed.{areSettings}
+use Rattle.table.specs.Reach.{upTo}
 use Rattle.table.specs.declared.Settings.{Settings}
 use Rattle.table.specs.declared.SatBox.{SatBox}
 use Rattle.table.specs.declared.Refusal.{Refusal}
@@ -27,15 +28,20 @@ abbrev pub numberIn : Outcome → ℕ
 numberIn Done = 0
 numberIn (Refused refusal) = refusalNumber refusal
 
--- what is fixed when a box is made: F and C
+-- what is fixed when a box is made: F and C, and the sets; here "each reaches all four"
 abbrev pub settingsOf : ℕ → ℕ → Settings
-settingsOf frontends size = record { size = size; frontends = frontends; spare = 0 }
+settingsOf frontends size = record { size = size; frontends = frontends; spare = 0; reach = upTo frontends (replicate 8 15) }
+
+-- what the box keeps of those that are given
+abbrev pub stored : Settings → Settings
+stored s = record { size = s .size; frontends = s .frontends; spare = 0; reach = upTo (s .frontends) (s .reach) }
 
 abbrev pub fresh : Settings → SatBox
 fresh s =
     record { sessions = replicate 32 noSession; streams = replicate 8 noStream; settings = s; held = 0; clock = 0; sequence = 0; spare = 0 }
 
--- 6: "F or C outside its range"; the box beside a refusal is of no frontend and no journal, which every call refuses
+-- 6: "F or C outside its range", with order 1 "also for an empty set"; the box beside a refusal is of no frontend and no journal, which every
+-- call refuses
 unfoldable pub madeOf : Settings → Made
 madeOf s =
-    cond (areSizes s) (record { satbox = fresh s; outcome = Done }) (record { satbox = fresh (settingsOf 0 0); outcome = Refused Sizes })
+    cond (areSettings (stored s)) (record { satbox = fresh (stored s); outcome = Done }) (record { satbox = fresh (settingsOf 0 0); outcome = Refused Sizes })

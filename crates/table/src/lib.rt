@@ -1,12 +1,16 @@
 // The box's table: its sessions and streams, and a fresh one. Any bytes are a table; whether a box could stand so is said by
 // the crate `formed`.
 mod numbers;
+mod reach;
 
 pub use numbers::are_distinct;
 pub use numbers::is_among;
+pub use reach::has;
+pub use reach::set_of;
+pub use reach::size_of;
 ghost use mathlib.Core.Path.{_≡_};
-ghost use Rattle.table.specs.Formed.{areSizes};
-ghost use Rattle.table.specs.Made.{refusalNumber, madeOf};
+ghost use Rattle.table.specs.Formed.{areSettings};
+ghost use Rattle.table.specs.Made.{refusalNumber, stored, madeOf};
 use journal::Record;
 use stream::Stream;
 
@@ -35,12 +39,14 @@ impl Session {
     };
 }
 
-// What is fixed when a box is made: the journal's size and the frontends. The spare bytes are nobody's: they fill the struct.
+// What is fixed when a box is made: the journal's size, the frontends, and the set of sources that each of these reaches. The spare bytes are
+// nobody's: they fill the struct.
 #[repr(C)]
 pub struct Settings {
     pub size: u32,
     pub frontends: u16,
     pub spare: u16,
+    pub reach: [u8; 8],
 }
 
 impl Settings {
@@ -49,6 +55,7 @@ impl Settings {
         size: 0,
         frontends: 0,
         spare: 0,
+        reach: [0; 8],
     };
 }
 
@@ -76,7 +83,7 @@ pub enum Refusal {
     Buffer,
     // There is no such frontend.
     Frontend,
-    // The frontends or the journal's size are outside their range.
+    // The frontends, the journal's size or a frontend's set of sources are outside their range.
     Sizes,
 }
 
@@ -115,9 +122,10 @@ impl SatBox {
     pub fn fresh(settings: Settings) -> Made
         ensures { λ r. ⌜ r ≡ madeOf settings ⌝ }
     {
-        if are_sizes(settings) {
+        let kept = stored(settings);
+        if are_settings(kept) {
             Made {
-                satbox: empty(settings),
+                satbox: empty(kept),
                 outcome: Outcome::Done,
             }
         } else {
@@ -129,15 +137,31 @@ impl SatBox {
     }
 }
 
-// Whether F and C are in range.
-pub fn are_sizes(settings: Settings) -> bool
-    ensures { λ r. ⌜ r ≡ areSizes settings ⌝ }
+// Whether F and C are in range, and the frontends' sets of sources are some.
+pub fn are_settings(settings: Settings) -> bool
+    ensures { λ r. ⌜ r ≡ areSettings settings ⌝ }
 {
     let frontends = settings.frontends;
     let size = settings.size;
+    let reach = settings.reach;
     ((1 <= frontends) & (frontends <= SatBox::MOST_FRONTENDS))
         & (((SatBox::LEAST_SIZE <= size) & (size <= SatBox::MOST_SIZE))
             & (size % SatBox::RECORD == 0))
+        & reach::are_sets(&reach, frontends as usize)
+}
+
+// The settings as a box keeps them: nothing above the last frontend, and nothing in the spare bytes.
+fn stored(settings: Settings) -> Settings
+    ensures { λ r. ⌜ r ≡ stored settings ⌝ }
+{
+    let mut kept = settings.reach;
+    reach::clear_from(&mut kept, settings.frontends as usize);
+    Settings {
+        size: settings.size,
+        frontends: settings.frontends,
+        spare: 0,
+        reach: kept,
+    }
 }
 
 fn empty(settings: Settings) -> SatBox

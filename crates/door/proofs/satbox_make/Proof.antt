@@ -26,7 +26,7 @@ use sound.WpLaws.{FmC, fmOf, WpFn-mono}
 use denote.RattleType.{owns}
 use denote.Laws.{Is, shows}
 use denote.Memory.{mem, cellAt}
-use denote.Plain.{uint-vals, uint-tells, uint-makes}
+use denote.Plain.{uint-makes}
 use denote.Builtin.{u32}
 use denote.Ref.{RefT, MutRef, ptr-vals, mut-tells, ptr, name, now}
 use denote.Signature.{plain}
@@ -47,6 +47,9 @@ use Rattle.table.proofs.SatBox as T
 use Rattle.table.proofs.SatBox.Laws as T′
 use Rattle.door.proofs.turns.Refusing as S
 use Rattle.door.proofs.turns.Refusing.Laws as S′
+use Rattle.table.specs.declared.Settings.{Settings}
+use Rattle.table.proofs.Settings as P1
+use Rattle.table.proofs.Settings.Laws as P1′
 use Rattle.door.proofs.turns.make as stp
 use Rattle.door.proofs.turns.make.Symbol as stp-def
 use Rattle.door.proofs.turns.make.Symbol.{name as #stp}
@@ -58,14 +61,14 @@ use Rattle.door.proofs.satbox_make.Code as code
 
 -- of what is no `&mut` nothing is had at exit, and nothing is said of it there
 abbrev stayed : Stays (own.ended .signature .params) (own.ended .kept)
-stayed = (stay-ref (0 ∷ []) tt (plain (λ _. T.the-row)), (stay-dropped (plain (λ _. u32)) yes, (stay-dropped (plain (λ _. u32)) yes, tt)))
+stayed = (stay-ref (0 ∷ []) tt (plain (λ _. T.the-row)), (stay-dropped (plain (λ _. P1.the-row)) yes, tt))
 
 -- the contract that the proof cites
 abbrev StepC : {M : Type 1} (𝓤 : URA M) (H : Heap 𝓤) (A : Atoms 𝓤) (mem : Memory → SProp 𝓤) (run : Routine → Fun 𝓤) → Contract 𝓤
 StepC 𝓤 H A mem run = tripleOf 𝓤 H A stp.signature (stp.spec 𝓤 H A mem run)
 
-module _ {M : Type 1} (𝓤 : URA M) (H : Heap 𝓤) (A : Atoms 𝓤) (W : Given 𝓤 H A) (at-mem : Memory → SProp 𝓤) (run : Routine → Fun 𝓤) (κ : Lft) (q : Share) (t : RefT SatBox) (x1 : ℕ) (x2 : ℕ)
-    (fits1 : x1 < 2 ^ 32) (fits2 : x2 < 2 ^ 32) where
+module _ {M : Type 1} (𝓤 : URA M) (H : Heap 𝓤) (A : Atoms 𝓤) (W : Given 𝓤 H A) (at-mem : Memory → SProp 𝓤) (run : Routine → Fun 𝓤) (κ : Lft) (q : Share) (t : RefT SatBox) (x1 : Settings)
+    (fits1 : Is P1.the-row x1 (LL.val P1.the-type P1′.the-laws x1 ∷ [])) where
   abbrev κs : Lfts 0
   κs = tt
 
@@ -80,19 +83,19 @@ module _ {M : Type 1} (𝓤 : URA M) (H : Heap 𝓤) (A : Atoms 𝓤) (W : Given
 
   -- what is passed on, and its machine values
   abbrev RestT : Type 0
-  RestT = ℕ × (ℕ × Unit {0})
+  RestT = Settings × Unit {0}
 
   abbrev RestV : Type 0
-  RestV = List Val × (List Val × Unit {0})
+  RestV = List Val × Unit {0}
 
   abbrev rest : RestT
-  rest = (x1, (x2, tt))
+  rest = (x1, tt)
 
   abbrev restV : RestV
-  restV = (vint w32 x1 ∷ [], (vint w32 x2 ∷ [], tt))
+  restV = (LL.val P1.the-type P1′.the-laws x1 ∷ [], tt)
 
   abbrev Rest : Fml
-  Rest = owns (u32 ∷ u32 ∷ []) rest restV
+  Rest = owns (P1.the-row ∷ []) rest restV
 
   abbrev Tokens : Item 𝓤
   Tokens = ‵ ftrue
@@ -121,7 +124,7 @@ module _ {M : Type 1} (𝓤 : URA M) (H : Heap 𝓤) (A : Atoms 𝓤) (W : Given
   Asks = own.clauses 𝓤 H A at-mem run (κ, κs) x .requires tt
 
   abbrev LastsT : Type 0
-  LastsT = Unit {0} × (Unit {0} × (Unit {0} × Unit {0}))
+  LastsT = Unit {0} × (Unit {0} × Unit {0})
 
   abbrev Says : Refusing → LastsT → SProp 𝓤
   Says = λ r zs. stp.clauses 𝓤 H A at-mem run κs (now t, rest) .ensures tt r (atExit stp.ended κs (now t, rest) zs)
@@ -138,9 +141,9 @@ module _ {M : Type 1} (𝓤 : URA M) (H : Heap 𝓤) (A : Atoms 𝓤) (W : Given
   exits : (r : Refusing) (zs : LastsT) → r .refusal < 2 ^ 32 → ent 𝓤 (⋆ 𝓤 H A (‵ (fobs (name t) (T.the-row .coded .code (r .satbox))) ∷ ‵ (fbor κ (Body (mem T.the-row) b o (name t))) ∷ ‵ (flft κ q) ∷ Tokens ∷ raw (Says r zs) ∷ [])) (Post (vint w32 (r .refusal)))
   exits r zs fits =
       qed W (‵ (fobs (name t) (T.the-row .coded .code (r .satbox))) ∷ ‵ (fbor κ (Body (mem T.the-row) b o (name t))) ∷ ‵ (flft κ q) ∷ Tokens ∷ raw (Says r zs) ∷ []) ∵
-      suffices ! _ (ends-at 𝓤 H A own.ended stayed (own.clauses 𝓤 H A at-mem run) W (((κ, κs), (q, qs), tt, x, at), tt) (vint w32 (r .refusal)) (r .refusal) (r .satbox, (tt, (tt, tt))) (tt, (tt, (tt, tt)))) $ move ! (2 ∷ 3 ∷ []) $ join ! $
+      suffices ! _ (ends-at 𝓤 H A own.ended stayed (own.clauses 𝓤 H A at-mem run) W (((κ, κs), (q, qs), tt, x, at), tt) (vint w32 (r .refusal)) (r .refusal) (r .satbox, (tt, tt)) (tt, (tt, tt))) $ move ! (2 ∷ 3 ∷ []) $ join ! $
       -- [the tokens; obs; the borrow; the last lists, the last one first; what `make` says]
-      nothing ! $ nothing ! $ fjoin ! $ nothing ! $ fjoin ! $
+      nothing ! $ nothing ! $ fjoin ! $
       move ! (2 ∷ 3 ∷ 0 ∷ []) $ feqI ! (List Val) (vptr b o ∷ []) (vptr b o ∷ []) refl $ fjoin3 ! $ fjoin ! $ owned ! u32 (Is u32) (uint-makes 𝓤 H A W w32) (r .refusal) _ (refl, fits) $ move ! (1 ∷ 0 ∷ []) $ join ! $ move ! (1 ∷ 0 ∷ []) $ join ! $ frame ! $ done !
 
   -- what is known of the fields of what `make` returned
@@ -151,45 +154,45 @@ module _ {M : Type 1} (𝓤 : URA M) (H : Heap 𝓤) (A : Atoms 𝓤) (W : Given
   out-fits r vs is = LL.owed S.the-type S′.the-laws r vs is .0 .1
 
   module _ (C : Calls 𝓤 H) (Λ : Loops 𝓤 H) (fm : FmC 𝓤 H (W .laws) C) (known : Triple 𝓤 (C #stp) (StepC 𝓤 H A at-mem run)) where
-    walk : ent 𝓤 (sep 𝓤 (onEntry 𝓤 H A own.signature (κ, κs) (q, qs) x at) Asks) (WpFn 𝓤 H C Λ code.function (vptr b o ∷ vint w32 x1 ∷ vint w32 x2 ∷ []) Post)
+    walk : ent 𝓤 (sep 𝓤 (onEntry 𝓤 H A own.signature (κ, κs) (q, qs) x at) Asks) (WpFn 𝓤 H C Λ code.function (vptr b o ∷ LL.val P1.the-type P1′.the-laws x1 ∷ []) Post)
     walk =
-        qed W (((‵ (flft κ q) ⊛ Tokens) ⊛ ‵ (owns (MutRef (named 0) κ T.the-row ∷ u32 ∷ u32 ∷ []) x at)) ∷ raw Asks ∷ []) ∵ split ! $ split ! $ move ! (2 ∷ []) $ fsplit ! $ fsplit3 ! $ drop ! $ move ! (0 ∷ 1 ∷ 3 ∷ []) $
+        qed W (((‵ (flft κ q) ⊛ Tokens) ⊛ ‵ (owns (MutRef (named 0) κ T.the-row ∷ P1.the-row ∷ []) x at)) ∷ raw Asks ∷ []) ∵ split ! $ split ! $ move ! (2 ∷ []) $ fsplit ! $ fsplit3 ! $ drop ! $ move ! (0 ∷ 1 ∷ 3 ∷ []) $
         -- [obs; the borrow; the token; what is passed on; its tokens; what is given]
-        enter ! C Λ code.function _ _ $ alloc1 ! (λ l₀. alloc1 ! (λ l₁. alloc1 ! (λ l₂. alloc1 ! (λ l₃. alloc1 ! (λ l₄. alloc1 ! (λ l₅. alloc0 ! $ params1 ! $
-        pass1 ! (init ! 8 refl (tt, tt)) $ pass1 ! (init ! 6 refl (tt, record { fits = fits1 })) $ pass1 ! (init ! 4 refl (tt, record { fits = fits2 })) $ pass0 ! $
-        move ! (12 ∷ 13 ∷ 14 ∷ []) $ opens ! tt T.the-row {h = now t} b o (λ vs. spelt ! T.the-row (Is T.the-row) (shows 𝓤 H A T.the-row) (LL.vals T.the-type T′.the-laws) (LL.tells T.the-type T′.the-laws) fullShare (now t) vs b o $
+        enter ! C Λ code.function _ _ $ alloc1 ! (λ l₀. alloc1 ! (λ l₁. alloc1 ! (λ l₂. alloc1 ! (λ l₃. alloc1 ! (λ l₄. alloc0 ! $ params1 ! $
+        pass1 ! (init ! 6 refl (tt, tt)) $ pass1 ! (init ! 4 refl (LL.lawful P1.the-type P1′.the-laws 𝓤 H A W .typed x1 _ fits1 .0)) $ pass0 ! $
+        move ! (10 ∷ 11 ∷ 12 ∷ []) $ opens ! tt T.the-row {h = now t} b o (λ vs. spelt ! T.the-row (Is T.the-row) (shows 𝓤 H A T.the-row) (LL.vals T.the-type T′.the-laws) (LL.tells T.the-type T′.the-laws) fullShare (now t) vs b o $
         use1 W (‵ (fat fullShare T′.mir b o (mach (now t)))) (W .laws .raw-at fullShare T′.mir b o (mach (now t))) $
         move ! (1 ∷ []) $ peeks ! T.the-row (Is T.the-row) (shows 𝓤 H A T.the-row) (now t) (mach (now t) ∷ []) (λ was. move ! (1 ∷ 0 ∷ []) $
-        -- [the table's cell; what a SatBox owns; the open borrow; obs; auth; _5; …; … _1; …; room for _0; …; what is passed on; its tokens; what is given]: _i stands at 15 − 2 i
-        assigns ! (of-opd ! (load ! (from ! (hop ! (look ! 13 refl) (stop !))) (look ! 0 refl))) (from ! (stop !)) (init ! 5 refl (LL.lawful T.the-type T′.the-laws 𝓤 H A W .typed (now t) _ was .0)) $
-        move ! (1 ∷ 17 ∷ []) $ fjoin ! $ move ! (17 ∷ 0 ∷ 18 ∷ []) $ use3 W (raw (StepC 𝓤 H A at-mem run .pre to-step)) goes-step $
-        -- [what `make` asks; the table's cell; the open borrow; obs; auth; _5; …]
+        -- [the table's cell; what a SatBox owns; the open borrow; obs; auth; _4; …; … _1; …; room for _0; …; what is passed on; its tokens; what is given]: _i stands at 13 − 2 i
+        assigns ! (of-opd ! (load ! (from ! (hop ! (look ! 11 refl) (stop !))) (look ! 0 refl))) (from ! (stop !)) (init ! 5 refl (LL.lawful T.the-type T′.the-laws 𝓤 H A W .typed (now t) _ was .0)) $
+        move ! (1 ∷ 15 ∷ []) $ fjoin ! $ move ! (15 ∷ 0 ∷ 16 ∷ []) $ use3 W (raw (StepC 𝓤 H A at-mem run .pre to-step)) goes-step $
+        -- [what `make` asks; the table's cell; the open borrow; obs; auth; _4; …]
         calls-at ! fm (StepC 𝓤 H A at-mem run) known to-step
-        (and-then ! (load ! (from ! (stop !)) (look ! 5 refl)) (and-then ! (load ! (from ! (stop !)) (look ! 11 refl)) (and-then ! (load ! (from ! (stop !)) (look ! 9 refl)) (no-more !)))) (λ w.
+        (and-then ! (load ! (from ! (stop !)) (look ! 5 refl)) (and-then ! (load ! (from ! (stop !)) (look ! 9 refl)) (no-more !))) (λ w.
         use1 W (later (some (λ (r : Refusing). (Tokens ⊛ ‵ (S.the-row .own r (w ∷ []))) ⊛ raw (ensured 𝓤 H A stp.ended (stp.clauses 𝓤 H A at-mem run) κs (now t, rest) tt r)))) (id⊢ 𝓤 _) $ await ! tt $ pick ! (λ r.
         split ! $ move ! (1 ∷ []) $ use1 W (some (λ (zs : LastsT). ‵ (lasts stp.ended κs (now t, rest) zs) ⊛ raw (Says r zs))) (id⊢ 𝓤 _) $ pick ! (λ zs. split ! $
-        fsplit ! $ drop ! $ fsplit ! $ drop ! $ fsplit ! $ drop ! $ drop ! $
-        -- [the last lists, the last one first; what `make` says; the tokens and the result; the table's cell; the open borrow; obs; auth; _5; …]
+        fsplit ! $ drop ! $ fsplit ! $ drop ! $ drop ! $
+        -- [the last lists, the last one first; what `make` says; the tokens and the result; the table's cell; the open borrow; obs; auth; _4; …]
         move ! (1 ∷ []) $ split ! $ move ! (1 ∷ []) $ peeks ! S.the-row (Is S.the-row) (shows 𝓤 H A S.the-row) r (w ∷ []) (λ is. drop ! $ move ! (2 ∷ 3 ∷ 4 ∷ 5 ∷ []) $
-        -- [the table's cell; the open borrow; obs; auth; the tokens; the last lists; what `make` says; _5; …]: _i stands at 16 − 2 i
-        land ! (from ! (stop !)) (init ! 8 refl (LL.lawful S.the-type S′.the-laws 𝓤 H A W .typed r _ is .0)) $ rewrite ! 8 (λ (u : Val). ‵ (fat fullShare S′.mir l₄ 0 u)) (ap only (LL.tells S.the-type S′.the-laws r _ is)) refl $
-        assigns ! (of-opd ! (load ! (from ! (fld ! refl (stop !))) (look-in ! 8 (sub ! 1 refl (whole !))))) (from ! (hop ! (look ! 14 refl) (stop !))) (store ! 0 refl (LL.lawful T.the-type T′.the-laws 𝓤 H A W .typed (r .satbox) _ (table-is r _ is) .0)) $
-        assigns ! (of-opd ! (load ! (from ! (fld ! refl (stop !))) (look-in ! 8 (sub ! 0 refl (whole !))))) (from ! (stop !)) (init ! 16 refl (tt, record { fits = out-fits r _ is })) $
+        -- [the table's cell; the open borrow; obs; auth; the tokens; the last lists; what `make` says; _4; …]: _i stands at 14 − 2 i
+        land ! (from ! (stop !)) (init ! 8 refl (LL.lawful S.the-type S′.the-laws 𝓤 H A W .typed r _ is .0)) $ rewrite ! 8 (λ (u : Val). ‵ (fat fullShare S′.mir l₃ 0 u)) (ap only (LL.tells S.the-type S′.the-laws r _ is)) refl $
+        assigns ! (of-opd ! (load ! (from ! (fld ! refl (stop !))) (look-in ! 8 (sub ! 1 refl (whole !))))) (from ! (hop ! (look ! 12 refl) (stop !))) (store ! 0 refl (LL.lawful T.the-type T′.the-laws 𝓤 H A W .typed (r .satbox) _ (table-is r _ is) .0)) $
+        assigns ! (of-opd ! (load ! (from ! (fld ! refl (stop !))) (look-in ! 8 (sub ! 0 refl (whole !))))) (from ! (stop !)) (init ! 14 refl (tt, record { fits = out-fits r _ is })) $
         use1 W (‵ (cellAt fullShare (T.the-row .mir) (mach (r .satbox) ∷ []) b o)) (W .laws .at-raw fullShare T′.mir b o (mach (r .satbox))) $
         owned ! T.the-row (Is T.the-row) ((LL.makes T.the-type T′.the-plain) 𝓤 H A) (r .satbox) _ (table-is r _ is) $ move ! (1 ∷ 0 ∷ []) $ closes ! tt T.the-row (r .satbox) (mach (r .satbox) ∷ []) b o $
-        -- [obs; the borrow; the token; the tokens; the last lists; what `make` says; _5; …]: _i stands at 15 − 2 i
-        returns ! (look ! 15 refl) $ forget ! 5 refl $ forget ! 7 refl $ forget ! 9 refl $ forget ! 11 refl $ forget ! 13 refl $ forget ! 15 refl $
-        move ! (15 ∷ 16 ∷ []) $ free1 ! $ move ! (13 ∷ 14 ∷ []) $ free1 ! $ move ! (11 ∷ 12 ∷ []) $ free1 ! $ move ! (9 ∷ 10 ∷ []) $ free1 ! $ move ! (7 ∷ 8 ∷ []) $ free1 ! $ move ! (5 ∷ 6 ∷ []) $ free1 ! $ free0 ! $
-        keep ! (0 ∷ 1 ∷ 2 ∷ 3 ∷ 4 ∷ []) $ by ! (exits r zs (out-fits r _ is))))))))))))))
+        -- [obs; the borrow; the token; the tokens; the last lists; what `make` says; _4; …]: _i stands at 13 − 2 i
+        returns ! (look ! 13 refl) $ forget ! 5 refl $ forget ! 7 refl $ forget ! 9 refl $ forget ! 11 refl $ forget ! 13 refl $
+        move ! (13 ∷ 14 ∷ []) $ free1 ! $ move ! (11 ∷ 12 ∷ []) $ free1 ! $ move ! (9 ∷ 10 ∷ []) $ free1 ! $ move ! (7 ∷ 8 ∷ []) $ free1 ! $ move ! (5 ∷ 6 ∷ []) $ free1 ! $ free0 ! $
+        keep ! (0 ∷ 1 ∷ 2 ∷ 3 ∷ 4 ∷ []) $ by ! (exits r zs (out-fits r _ is)))))))))))))
 
 module _ {M : Type 1} (𝓤 : URA M) (H : Heap 𝓤) (A : Atoms 𝓤) (W : Given 𝓤 H A) (mem : Memory → SProp 𝓤) (run : Routine → Fun 𝓤) where
   walks : (C : Calls 𝓤 H) (Λ : Loops 𝓤 H) → FmC 𝓤 H (W .laws) C → Triple 𝓤 (C #stp) (StepC 𝓤 H A mem run) → Walks 𝓤 H A own.ended stayed (WpFn 𝓤 H C Λ code.function) (own.clauses 𝓤 H A mem run)
-  walks C Λ fm known = walked 𝓤 H A own.ended stayed (own.clauses 𝓤 H A mem run) (WpFn 𝓤 H C Λ code.function) (λ κs. (ptr-vals, (uint-vals w32, (uint-vals w32, tt))))
-      (λ κs. (mut-tells (named 0) (κs .0) T.the-row, (uint-tells w32, (uint-tells w32, tt))))
-      (λ κs qs bounds a g are. walk 𝓤 H A W mem run (κs .0) (qs .0) (a .0) (a .1 .0) (a .1 .1 .0) (are .1 .0 .1) (are .1 .1 .0 .1) C Λ fm known)
+  walks C Λ fm known = walked 𝓤 H A own.ended stayed (own.clauses 𝓤 H A mem run) (WpFn 𝓤 H C Λ code.function) (λ κs. (ptr-vals, (LL.vals P1.the-type P1′.the-laws, tt)))
+      (λ κs. (mut-tells (named 0) (κs .0) T.the-row, (LL.tells P1.the-type P1′.the-laws, tt)))
+      (λ κs qs bounds a g are. walk 𝓤 H A W mem run (κs .0) (qs .0) (a .0) (a .1 .0) (are .1 .0) C Λ fm known)
 
   goes : AllGo 𝓤 H A W 1 (own.signature .params) (own.ended .kept) stayed
-  goes = (goes-ref 𝓤 H A W 1 0 tt (plain (λ _. T.the-row)), (goes-dropped 𝓤 H A W 1 (plain (λ _. u32)) yes (λ κs x f. refl), (goes-dropped 𝓤 H A W 1 (plain (λ _. u32)) yes (λ κs x f. refl), tt)))
+  goes = (goes-ref 𝓤 H A W 1 0 tt (plain (λ _. T.the-row)), (goes-dropped 𝓤 H A W 1 (plain (λ _. P1.the-row)) yes (λ κs x f. refl), tt))
 
 meets : {M : Type 1} (𝓤 : URA M) (H : Heap 𝓤) (A : Atoms 𝓤) → Given 𝓤 H A → (mem : Memory → SProp 𝓤) (run : Routine → Fun 𝓤) (𝓣 : Tables 𝓤 H) → Triple 𝓤 (𝓣 .C #stp) (StepC 𝓤 H A mem run)
     → Meets 𝓤 H A own.signature (WpFn 𝓤 H (𝓣 .C) (𝓣 .Λ) code.function) (own.spec 𝓤 H A mem run)

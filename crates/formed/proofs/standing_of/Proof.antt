@@ -24,7 +24,7 @@ returns-3 c =
     let t = a .before .before .before .args .t in
     let e = a .are-sound .ensures .1 (not-false _ (f .if1 .left)) in
     stands _ e (s .seats-of .ensures .0) (w .before .is-well .ensures) (w .if2 .left) (a .are-sound .ensures .0) (f .if1 .left)
-    (c .before .before .before .before .before .before .are-sizes .ensures) (c .before .before .before .before .are-distinct .ensures)
+    (c .before .before .before .before .before .before .are-settings .ensures) (c .before .before .before .before .are-distinct .ensures)
     (c .before .are-owned .ensures (t .sessions) (t .streams) e (s .seats-of .ensures .1 (held (w .before .is-well .ensures) (w .if2 .left)))) (c .if3 .taken)
 
 returns-4 : tie.Need-returns-4
@@ -36,7 +36,7 @@ returns-4 c =
     let t = a .before .before .before .args .t in
     let e = a .are-sound .ensures .1 (not-false _ (f .if1 .left)) in
     falls _ e (s .seats-of .ensures .0) (w .before .is-well .ensures) (w .if2 .left) (a .are-sound .ensures .0) (f .if1 .left)
-    (c .before .before .before .before .before .before .are-sizes .ensures) (c .before .before .before .before .are-distinct .ensures)
+    (c .before .before .before .before .before .before .are-settings .ensures) (c .before .before .before .before .are-distinct .ensures)
     (c .before .are-owned .ensures (t .sessions) (t .streams) e (s .seats-of .ensures .1 (held (w .before .is-well .ensures) (w .if2 .left)))) (c .if3 .left)
 
 pub standing-of-spec : {M : Type 1} → statement M

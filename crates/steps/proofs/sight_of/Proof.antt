@@ -7,4 +7,4 @@ returns : tie.Need-returns
 returns c = rw (c .port-of .ensures, c .before .before .is-absent .ensures)
 
 pub sight-of-spec : {M : Type 1} → statement M
-sight-of-spec = tie.close (tie.spec (λ c κs. search needs) (λ c. search needs) (λ c κs. search needs) returns)
+sight-of-spec = tie.close (tie.spec (λ c κs. search needs) (λ c. search needs) (λ c. search needs) (λ c κs. search needs) returns)

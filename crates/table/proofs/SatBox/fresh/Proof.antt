@@ -11,5 +11,6 @@ fresh-spec =
     (λ c κs. search needs)
     (λ c κs. search needs)
     (λ c κs. search needs)
-    (λ c. made _ (c .before .before .are-sizes .ensures) (c .before .if1 .taken) (c .empty .ensures))
-    (λ c. refused _ (c .before .before .are-sizes .ensures) (c .before .if1 .left) (c .empty2 .ensures)))
+    (λ c κs. search needs)
+    (λ c. made _ (c .before .before .before .stored .ensures) (c .before .before .are-settings .ensures) (c .before .if1 .taken) (c .empty .ensures))
+    (λ c. refused _ (c .before .before .before .stored .ensures) (c .before .before .are-settings .ensures) (c .before .if1 .left) (c .empty2 .ensures)))

@@ -1,0 +1,176 @@
+-- ORDER 1 OF DOCUMENT 02, "Not every tuner sees every dish": what the choice of a frontend is, what a well-formed table says of the sources, and
+-- that a box whose frontends reach all four is the box of document 01. Assumes nothing.
+use mathlib.Core.Path.{_≡_, refl, sym, _∙_, ap}
+use mathlib.Core.Bool.{Bool, true, false, not, cond, _&&_, _||_, and-true, and-false}
+use mathlib.Core.List.{List, [], _∷_}
+use Prim.Native.Nat.{ℕ, zero, suc, _+_, _≤_, _<_}
+use native.Mathlib.Omega.{arith}
+use lib.Dec.{eqb, leb}
+use lib.ListN.{length, getD, replicate}
+use borrow.Author.Tests.{eq-eqb, ne-eqb, leb-true, le-leb}
+use Rattle.scan.specs.Lists.{isBetween, _gives_or_}
+use Rattle.scan.proofs.Bools.{never, and-both, both, or-second, Case as Test, is, isnt, case, Same, same, other, sames}
+use Rattle.table.specs.Table.{streamOf, isDead}
+use Rattle.table.specs.Reach.{has, sizeOf, setOf, upTo}
+use Rattle.table.specs.Made.{settingsOf}
+use Rattle.table.specs.declared.Settings.{Settings}
+use Rattle.table.specs.declared.SatBox.{SatBox}
+use Rattle.table.proofs.Changes.{placed-at}
+use Rattle.finding.specs.Finding.{isHeld, canFeed, sizeAt, choice}
+use Rattle.finding.proofs.Frontends.{IsChoice, choice-is, choice-none}
+use Rattle.closings.proofs.Keeping.{Whole, frontends-few}
+use Rattle.steps.specs.Sights.{Asked, Lists, sightOf}
+use Rattle.steps.specs.Steps.{isPassed, looksUp, tableCase}
+use Rattle.steps.specs.declared.Sight.{Sight}
+use Rattle.steps.specs.declared.cases.Case.{Case}
+use Rattle.steps.specs.declared.cases.Case.the-variants.{Passed, Full}
+use Rattle.serving.specs.Serving.{sourceOf, merging, merges, mergeCase, isUnreached, isOpening, canSeat, caseOf}
+use Rattle.serving.proofs.Passing.{untested}
+use Rattle.aim.specs.Aim.{methodNumber}
+use Rattle.aim.specs.declared.Method.{Method}
+use Rattle.aim.specs.declared.Method.the-variants.{Options, Setup, Play, Teardown, Other}
+use Rattle.stream.specs.Values.{given}
+use Rattle.stream.specs.Streams.{isSound}
+use Rattle.stream.specs.Arrays.{isInRange, isFit, areFit}
+use Rattle.stream.proofs.Soundness.{sound-live}
+use Rattle.table.proofs.Rules.{placed-sound}
+use Rattle.steps.proofs.ReplyLaws.{unread-passed, table-unread}
+
+-- THE CHOICE: where a free frontend reaches the src, the one that is chosen is free and reaches it, no other such has a smaller set, and none of
+-- equal size a lower number; where none does, none is chosen
+module _ (t : SatBox) (w : Whole t) (source : ℕ) where
+  pub choice-is-that : (g : ℕ) → canFeed t source g ≡ true → IsChoice t source (choice t source)
+  choice-is-that g e = choice-is t source (frontends-few t w) (λ z. never e (choice-none t source (frontends-few t w) z g))
+
+  pub none-is-chosen : ((g : ℕ) → canFeed t source g ≡ false) → choice t source ≡ 0
+  none-is-chosen h = by (sames (choice t source) 0)
+    where
+      by : Same (choice t source) 0 → choice t source ≡ 0
+      by (same z) = z
+      by (other z) = never (choice-is t source (frontends-few t w) z .feeds) (h (choice t source))
+
+-- "each stream's frontend reaches its src"
+pub stream-reached : (t : SatBox) → Whole t → (id : ℕ) → (streamOf t id .frontend ≡ 0 → ⊥) → has (setOf (t .settings) (streamOf t id .frontend)) (streamOf t id .values .src) ≡ true
+stream-reached t w id live = or-second _ _ (and-both (isSound (t .settings .frontends) (streamOf t id)) _ (placed-at (t .settings) (t .streams) (w .formed .rows) id) .1) (ne-eqb _ 0 live)
+
+-- AS BEFORE: every set is full
+pub record AllReach (s : Settings) : Type 0 where
+  pub full : (f : ℕ) → 1 ≤ f → f ≤ s .frontends → setOf s f ≡ 15
+
+-- the settings of which document 01 has two, F and C, are such
+pub settings-reach : (frontends size : ℕ) → frontends ≤ 8 → AllReach (settingsOf frontends size)
+settings-reach frontends size few = record { full = λ f low high. by f low high }
+  where
+    up : (n k m : ℕ) → k < n → k < m → getD (upTo n (replicate m 15)) k 0 ≡ 15
+    up zero k m h l = absurd (omega arith)
+    up (suc n) k zero h l = absurd (omega arith)
+    up (suc n) zero (suc m) h l = refl
+    up (suc n) (suc k) (suc m) h l = up n k m (omega arith) (omega arith)
+
+    by : (f : ℕ) → 1 ≤ f → f ≤ frontends → setOf (settingsOf frontends size) f ≡ 15
+    by zero low high = absurd (omega arith)
+    by (suc k) low high = up frontends k 8 (omega arith) (omega arith)
+
+-- a source that a stream may have is in the full set
+full-has : (source : ℕ) → 1 ≤ source → source ≤ 4 → has 15 source ≡ true
+full-has zero low high = absurd (omega arith)
+full-has (suc zero) low high = refl
+full-has (suc (suc zero)) low high = refl
+full-has (suc (suc (suc zero))) low high = refl
+full-has (suc (suc (suc (suc zero)))) low high = refl
+full-has (suc (suc (suc (suc (suc k))))) low high = absurd (omega arith)
+
+-- document 01's: a frontend of the box that no stream holds
+abbrev pub isFreeFrontend : SatBox → ℕ → Bool
+isFreeFrontend t f = isBetween 1 (t .settings .frontends) f && not (isHeld f (t .streams))
+
+module _ (t : SatBox) (all : AllReach (t .settings)) (source : ℕ) (low : 1 ≤ source) (high : source ≤ 4) where
+  -- step 18: it can feed a stream exactly if it is free
+  pub feeds-if-free : (f : ℕ) → canFeed t source f ≡ isFreeFrontend t f
+  feeds-if-free f = by (case (isBetween 1 (t .settings .frontends) f))
+    where
+      by : Test (isBetween 1 (t .settings .frontends) f) → canFeed t source f ≡ isFreeFrontend t f
+      by (is y) =
+          let b = and-both (leb 1 f) _ y in
+          rw (all .full f (leb-true _ _ (b .0)) (leb-true _ _ (b .1)), full-has source low high, and-true (not (isHeld f (t .streams))))
+      by (isnt n) = rw n
+
+  -- and "the lowest free frontend" is taken: it is free, and none that is free is lower
+  module _ (w : Whole t) where
+    pub lowest-free-taken : (g : ℕ) → isFreeFrontend t g ≡ true → (isFreeFrontend t (choice t source) ≡ true) × (choice t source ≤ g)
+    lowest-free-taken g e =
+        let c = choice-is-that t w source g (feeds-if-free g ∙ e) in
+        (sym (feeds-if-free (choice t source)) ∙ c .feeds, c .lowest g (feeds-if-free g ∙ e) (ap sizeOf (size g (feeds-if-free g ∙ e) ∙ sym (size (choice t source) (c .feeds)))))
+      where
+        size : (f : ℕ) → canFeed t source f ≡ true → setOf (t .settings) f ≡ 15
+        size f y =
+            let b = and-both (leb 1 f) _ (and-both (isBetween 1 (t .settings .frontends) f) _ y .0) in
+            all .full f (leb-true _ _ (b .0)) (leb-true _ _ (b .1))
+
+-- DOCUMENT 01'S STEPS 11 TO 18, which know no src at 17
+unfoldable pub caseBefore : SatBox → Asked → Lists → Case
+caseBefore t a l =
+    not (isPassed (tableCase (sightOf t a))) gives tableCase (sightOf t a) or
+    (merges (sightOf t a) && not (isPassed (mergeCase (merging t a l .outcome)))) gives mergeCase (merging t a l .outcome) or
+    (isOpening (sightOf t a) && not (canSeat t (sightOf t a))) gives Full or
+    Passed
+
+module _ (t : SatBox) (w : Whole t) (all : AllReach (t .settings)) (a : Asked) (fit : areFit (a .codes) ≡ true) where
+  -- what was read of a src is none, or 1 to 4
+  src-range : (getD (a .codes) 0 0 ≡ 0 → ⊥) → (1 ≤ getD (a .codes) 0 0) × (getD (a .codes) 0 0 ≤ 4)
+  unfolding areFit isInRange
+  src-range some =
+      let b = and-both (leb 1 (getD (a .codes) 0 0)) _ (or-second (eqb (getD (a .codes) 0 0) 0) _ (and-both (isFit 0 (getD (a .codes) 0 0)) _ fit .0) (ne-eqb _ 0 some)) in
+      (leb-true _ _ (b .0), leb-true _ _ (b .1))
+
+  -- a new stream's src is 1 to 4
+  pub new-range : (1 ≤ sourceOf (sightOf t a)) × (sourceOf (sightOf t a) ≤ 4)
+  unfolding sightOf
+  new-range = by (sames (getD (a .codes) 0 0) 0)
+    where
+      by : Same (getD (a .codes) 0 0) 0 → (1 ≤ given (getD (a .codes) 0 0) 1) × (given (getD (a .codes) 0 0) 1 ≤ 4)
+      by (same z) = rw (eq-eqb (getD (a .codes) 0 0) 0 z) (omega arith, omega arith)
+      by (other z) = rw (ne-eqb (getD (a .codes) 0 0) 0 z) (src-range z)
+
+  -- STEP 17 NEVER REFUSES FOR A SRC
+  pub src-is-reached : (streamOf t (a .stream) .frontend ≡ 0 → ⊥) → isUnreached (sightOf t a) ≡ false
+  unfolding sightOf
+  src-is-reached live = by (sames (getD (a .codes) 0 0) 0)
+    where
+      by : Same (getD (a .codes) 0 0) 0 → (not (eqb (getD (a .codes) 0 0) 0) && not (has (setOf (t .settings) (streamOf t (a .stream) .frontend)) (getD (a .codes) 0 0))) ≡ false
+      by (same z) = rw (eq-eqb (getD (a .codes) 0 0) 0 z)
+      by (other z) =
+          let r = src-range z in
+          let m = streamOf t (a .stream) in
+          let sound = placed-sound (t .settings) m (placed-at (t .settings) (t .streams) (w .formed .rows) (a .stream)) in
+          let high = sound-live (t .settings .frontends) m sound live .within in
+          rw (all .full (m .frontend) (omega (arith, live)) high, full-has (getD (a .codes) 0 0) (r .0) (r .1), and-false (not (eqb (getD (a .codes) 0 0) 0)))
+
+  looked-up : (m : Method) → eqb (methodNumber m) 1 || eqb (methodNumber m) 2 ≡ true → looksUp m ≡ true
+  looked-up Options k = never k refl
+  looked-up Setup k = refl
+  looked-up Play k = refl
+  looked-up Teardown k = never k refl
+  looked-up Other k = never k refl
+
+  -- a stream whose owner's query is merged is live: 12
+  live-merged : merges (sightOf t a) ≡ true → tableCase (sightOf t a) ≡ Passed → (a .stream ≡ 0 → ⊥) → streamOf t (a .stream) .frontend ≡ 0 → ⊥
+  unfolding sightOf
+  live-merged m p z q =
+      never (rw (looked-up (a .method) (and-both (eqb (methodNumber (a .method)) 1 || eqb (methodNumber (a .method)) 2) _ m .0), ne-eqb (a .stream) 0 z, eq-eqb (streamOf t (a .stream) .frontend) 0 q)) (untested (sightOf t a) p .stream)
+
+  -- THE CASE of every request is that of document 01
+  pub case-as-before : (l : Lists) → caseOf t a l ≡ caseBefore t a l
+  unfolding caseOf caseBefore
+  case-as-before l = by (case (isPassed (tableCase (sightOf t a))))
+    where
+      silent : tableCase (sightOf t a) ≡ Passed → Test (merges (sightOf t a)) → Same (a .stream) 0 → (merges (sightOf t a) && (not (eqb (a .stream) 0) && isUnreached (sightOf t a))) ≡ false
+      silent p (isnt n) c = rw n
+      silent p (is m) (same z) = rw (m, z)
+      silent p (is m) (other z) = rw (m, src-is-reached (live-merged m p z), and-false (not (eqb (a .stream) 0)))
+
+      by : Test (isPassed (tableCase (sightOf t a))) → caseOf t a l ≡ caseBefore t a l
+      by (isnt n) = rw n
+      by (is y) =
+          let p = unread-passed (tableCase (sightOf t a)) (table-unread (sightOf t a)) y in
+          rw (silent p (case _) (sames _ 0))
