@@ -25,7 +25,11 @@
 #include <stddef.h>
 #include <stdint.h>
 
-/* Version a.b as a number: a in the upper sixteen bits, b in the lower. A firmware compares it with satbox_version when it starts. */
+/*
+ * Version a.b as a number: a in the upper sixteen bits, b in the lower. A firmware compares it with satbox_version when it starts.
+ * From 1.0 to 1.1: satbox_make takes its settings in one struct, with the sources that each frontend reaches. All of them at SATBOX_REACH_ALL is the box
+ * of 1.0, call for call. A box that 1.0 left is none of 1.1: its size is another.
+ */
 #define SATBOX_VERSION 0x00010001u      /* 1.1 */
 
 /* Limits. */
@@ -48,11 +52,11 @@
 #define SATBOX_CLOCK_MAX 4294967295u    /* here time stands still: no session opened now ever expires */
 
 /* Bytes of stack that each call takes, with its arguments on it and its return address. docs/FIRMWARE.md says how that was measured. */
-#define SATBOX_STACK_REQUEST 6136u
-#define SATBOX_STACK_TICK 2728u
-#define SATBOX_STACK_ORDER 2760u
+#define SATBOX_STACK_REQUEST 6184u
+#define SATBOX_STACK_TICK 3272u
+#define SATBOX_STACK_ORDER 2776u
 #define SATBOX_STACK_COLLECT 2712u
-#define SATBOX_STACK_MAKE 1544u
+#define SATBOX_STACK_MAKE 1576u
 #define SATBOX_STACK_WRITE_RECORD 80u
 #define SATBOX_STACK_READ_RECORD 56u
 #define SATBOX_STACK_VERSION 8u

@@ -1,124 +1,25 @@
 -- The frontend that a new stream takes: the search for it, and what is found. Assumes nothing.
 use mathlib.Core.Path.{_≡_, refl, sym, _∙_, ap}
-use mathlib.Core.Bool.{Bool, true, false, not, cond, _&&_, _||_, or-true, and-false}
-use mathlib.Core.List.{List, [], _∷_, map}
+use mathlib.Core.Bool.{Bool, true, false, cond, _&&_, _||_, and-false}
+use mathlib.Core.List.{List, [], _∷_}
 use Prim.Native.Nat.{ℕ, zero, suc, _+_, _-_, _/_, _^_, _≤_, _<_}
 use native.Mathlib.Nat.{zero-div}
 use native.Mathlib.Omega.{arith}
 use lib.Dec.{eqb, leb}
 use lib.ListN.{length, getD, set, drop, length-set, List·getD-eq-default}
 use lib.Seq.{getD-set-other, getD-set-same}
-use borrow.Author.Tests.{eq-eqb, ne-eqb, eqb-true, eqb-false, leb-true, leb-false, le-leb, lt-leb}
+use borrow.Author.Tests.{eq-eqb, ne-eqb, leb-true, leb-false, le-leb}
 use Rattle.scan.specs.Lists.{isBetween}
-use Rattle.scan.proofs.Bools.{never, and-both, both, Case, is, isnt, case, Same, same, other, sames}
+use Rattle.scan.proofs.Bools.{never, Case, is, isnt, case, Same, same, other, sames}
 use Rattle.scan.proofs.Loops.{turn, end}
 use Rattle.stream.specs.declared.Stream.{Stream}
-use Rattle.table.specs.Table.{isAmong}
-use Rattle.table.specs.Reach.{has, sizeOf, setOf}
+use Rattle.table.specs.Reach.{hasSource, sizeOf, setOf}
 use Rattle.table.specs.declared.Settings.{Settings}
 use Rattle.table.specs.declared.SatBox.{SatBox}
-use Rattle.table.proofs.Rules.{frontendsOf}
 use Rattle.finding.specs.Finding.{isHeld, canFeed, sizeAt, fewestFrom, choice}
 
--- WHAT THE CHOICE IS: free, reaching the source; no other such reaches fewer, and none that reaches as few has a lower number
-pub record IsChoice (t : SatBox) (source f : ℕ) : Type 0 where
-  pub feeds : canFeed t source f ≡ true
-  pub fewest : (g : ℕ) → canFeed t source g ≡ true → sizeAt t f ≤ sizeAt t g
-  pub lowest : (g : ℕ) → canFeed t source g ≡ true → sizeAt t g ≡ sizeAt t f → f ≤ g
-
--- it is so among the `more` frontends from f on, or it is 0 and none of them can feed the stream
-record Chosen (t : SatBox) (source more f g : ℕ) : Type 0 where
-  can : (g ≡ 0 → ⊥) → (canFeed t source g ≡ true) × (f ≤ g)
-  none : g ≡ 0 → (h : ℕ) → f ≤ h → h < f + more → canFeed t source h ≡ false
-  fewest : (h : ℕ) → f ≤ h → h < f + more → canFeed t source h ≡ true → sizeAt t g ≤ sizeAt t h
-  lowest : (h : ℕ) → f ≤ h → h < f + more → canFeed t source h ≡ true → sizeAt t h ≡ sizeAt t g → g ≤ h
-
 module _ (t : SatBox) (source : ℕ) where
-  -- a frontend before those that were looked at is taken, or it is not
-  taken : (more f g : ℕ) → 1 ≤ f → Chosen t source more (suc f) g → canFeed t source f && (eqb g 0 || leb (sizeAt t f) (sizeAt t g)) ≡ true → Chosen t source (suc more) f f
-  taken more f g low r y =
-      let a = and-both (canFeed t source f) _ y in
-      record {
-        can = λ _. (a .0, omega arith);
-        none = λ z. absurd (omega arith);
-        fewest = λ h l u e. by h l u e (sames f h) (sames g 0) (a .1);
-        lowest = λ h l u e z. l;
-      }
-    where
-      by : (h : ℕ) → f ≤ h → h < f + suc more → canFeed t source h ≡ true → Same f h → Same g 0 → eqb g 0 || leb (sizeAt t f) (sizeAt t g) ≡ true → sizeAt t f ≤ sizeAt t h
-      by h l u e (same q) c k = rw q (omega arith)
-      by h l u e (other q) (same z) k = never e (r .none z h (omega arith) (omega arith))
-      by h l u e (other q) (other z) k =
-          omega (arith, leb-true (sizeAt t f) (sizeAt t g) (rw (ne-eqb g 0 z) at k), r .fewest h (omega arith) (omega arith) e)
-
-  passed : (more f g : ℕ) → Chosen t source more (suc f) g → canFeed t source f && (eqb g 0 || leb (sizeAt t f) (sizeAt t g)) ≡ false → Chosen t source (suc more) f g
-  passed more f g r n =
-      record {
-        can = λ z. let c = r .can z in (c .0, omega (arith, c .1));
-        none = λ z h l u. empty z h l u (sames f h) (case (canFeed t source f));
-        fewest = λ h l u e. by h l u e (sames f h);
-        lowest = λ h l u e z. low h l u e z (sames f h);
-      }
-    where
-      empty : g ≡ 0 → (h : ℕ) → f ≤ h → h < f + suc more → Same f h → Case (canFeed t source f) → canFeed t source h ≡ false
-      empty z h l u (same q) (is y) = never (rw (y, eq-eqb g 0 z)) n
-      empty z h l u (same q) (isnt y) = rw (← q) y
-      empty z h l u (other q) c = r .none z h (omega arith) (omega arith)
-
-      more-of : canFeed t source f ≡ true → sizeAt t g < sizeAt t f
-      more-of y = smaller (case (leb (sizeAt t f) (sizeAt t g)))
-        where
-          smaller : Case (leb (sizeAt t f) (sizeAt t g)) → sizeAt t g < sizeAt t f
-          smaller (is z) = never (rw (y, z) (or-true (eqb g 0))) n
-          smaller (isnt z) = leb-false _ _ z
-
-      by : (h : ℕ) → f ≤ h → h < f + suc more → canFeed t source h ≡ true → Same f h → sizeAt t g ≤ sizeAt t h
-      by h l u e (same q) = rw (← q) (omega (arith, more-of (rw q e)))
-      by h l u e (other q) = r .fewest h (omega arith) (omega arith) e
-
-      low : (h : ℕ) → f ≤ h → h < f + suc more → canFeed t source h ≡ true → sizeAt t h ≡ sizeAt t g → Same f h → g ≤ h
-      low h l u e z (same q) = absurd (omega (arith, more-of (rw q e), ap (sizeAt t) q))
-      low h l u e z (other q) = r .lowest h (omega arith) (omega arith) e z
-
-  chosen : (more f : ℕ) → 1 ≤ f → Chosen t source more f (fewestFrom t source more f)
-  chosen zero f low =
-      record {
-        can = λ z. absurd (z refl);
-        none = λ z h l u. absurd (omega arith);
-        fewest = λ h l u e. absurd (omega arith);
-        lowest = λ h l u e z. absurd (omega arith);
-      }
-  chosen (suc more) f low = by (case _) (chosen more (suc f) (omega arith))
-    where
-      by : Case (canFeed t source f && (eqb (fewestFrom t source more (suc f)) 0 || leb (sizeAt t f) (sizeAt t (fewestFrom t source more (suc f))))) → Chosen t source more (suc f) (fewestFrom t source more (suc f)) → Chosen t source (suc more) f (fewestFrom t source (suc more) f)
-      by (is y) r = rw y (taken more f _ low r y)
-      by (isnt n) r = rw n (passed more f _ r n)
-
-  -- THE CHOICE IS THAT ONE, where there is one, and 0 where there is none
-  module _ (few : t .settings .frontends ≤ 8) where
-    within : (g : ℕ) → canFeed t source g ≡ true → (1 ≤ g) × (g < 9)
-    within g e =
-        let b = and-both (leb 1 g) _ (and-both (isBetween 1 (t .settings .frontends) g) _ e .0) in
-        (leb-true _ _ (b .0), omega (arith, leb-true g (t .settings .frontends) (b .1)))
-
-    pub choice-is : (choice t source ≡ 0 → ⊥) → IsChoice t source (choice t source)
-    unfolding choice
-    choice-is some =
-        let r = chosen 8 1 (omega arith) in
-        record {
-          feeds = r .can some .0;
-          fewest = λ g e. r .fewest g (within g e .0) (omega (arith, within g e .1)) e;
-          lowest = λ g e. r .lowest g (within g e .0) (omega (arith, within g e .1)) e;
-        }
-
-    pub choice-none : choice t source ≡ 0 → (g : ℕ) → canFeed t source g ≡ false
-    unfolding choice
-    choice-none z g = by (case _)
-      where
-        by : Case (canFeed t source g) → canFeed t source g ≡ false
-        by (is y) = chosen 8 1 (omega arith) .none z g (within g y .0) (omega (arith, within g y .1))
-        by (isnt n) = n
-
+  -- the choice is none, or one of eight
   pub choice-small : choice t source ≤ 8
   unfolding choice
   choice-small = omega (arith, below 8 1 (omega arith))
@@ -198,7 +99,7 @@ pub record Choosing (t : SatBox) (source best least f : ℕ) : Type 0 where
 pub choosing-start : (t : SatBox) (source : ℕ) → Choosing t source 0 0 8
 choosing-start t source = record { high = omega arith; same = refl; size = refl }
 
-has-none : (source : ℕ) → has 0 source ≡ false
+has-none : (source : ℕ) → hasSource 0 source ≡ false
 has-none source = let z : 0 / 2 ^ (source - 1) ≡ 0 = zero-div (2 ^ (source - 1)) in rw (z, and-false (isBetween 1 4 source))
 
 module _ {t : SatBox} {source best least f : ℕ} (sets : List ℕ) (e : FreeSets t sets) (r : Choosing t source best least f) where
@@ -209,7 +110,7 @@ module _ {t : SatBox} {source best least f : ℕ} (sets : List ℕ) (e : FreeSet
       by zero h = absurd (omega arith)
       by (suc k) h = let z : suc k - 1 ≡ k = omega arith in rw z
 
-  module _ (low : 1 ≤ f) {fits : Bool} {size : ℕ} (p : fits ≡ has (getD sets (f - 1) 0) source) (q : size ≡ sizeOf (getD sets (f - 1) 0)) where
+  module _ (low : 1 ≤ f) {fits : Bool} {size : ℕ} (p : fits ≡ hasSource (getD sets (f - 1) 0) source) (q : size ≡ sizeOf (getD sets (f - 1) 0)) where
     here : fewestFrom t source (8 - (f - 1)) (suc (f - 1)) ≡ cond (canFeed t source f && (eqb best 0 || leb (sizeAt t f) (sizeAt t best))) f best
     here =
         let a : 8 - (f - 1) ≡ suc (8 - f) = omega (arith, r .high) in

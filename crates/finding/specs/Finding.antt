@@ -6,7 +6,7 @@ use lib.Dec.{eqb, leb}
 use Rattle.scan.specs.Lists.{isBetween, first}
 use Rattle.stream.specs.declared.Stream.{Stream}
 use Rattle.table.specs.Table.{any, isAmong, hasNumber, isFree, isDead}
-use Rattle.table.specs.Reach.{has, sizeOf, setOf}
+use Rattle.table.specs.Reach.{hasSource, sizeOf, setOf}
 use Rattle.table.specs.declared.Session.{Session}
 use Rattle.table.specs.declared.SatBox.{SatBox}
 
@@ -24,7 +24,7 @@ isHeld f ms = isAmong f (map (λ m. m .frontend) ms)
 
 -- order 1: one "of the free frontends that reach its src"
 abbrev pub canFeed : SatBox → ℕ → ℕ → Bool
-canFeed t source f = isBetween 1 (t .settings .frontends) f && (not (isHeld f (t .streams)) && has (setOf (t .settings) f) source)
+canFeed t source f = isBetween 1 (t .settings .frontends) f && (not (isHeld f (t .streams)) && hasSource (setOf (t .settings) f) source)
 
 abbrev pub sizeAt : SatBox → ℕ → ℕ
 sizeAt t f = sizeOf (setOf (t .settings) f)

@@ -116,7 +116,7 @@ pub fn choice(t: SatBox, source: u32) -> u32
     while 0 < f {
         let set = sets[f as usize - 1];
         let size = table::size_of(set);
-        if ((f <= last) & table::has(set, source)) & ((best == 0) | (size <= least)) {
+        if ((f <= last) & table::has_source(set, source)) & ((best == 0) | (size <= least)) {
             best = f;
             least = size;
         }

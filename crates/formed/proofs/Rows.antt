@@ -14,7 +14,7 @@ use Rattle.scan.proofs.Bools.{never, and-and}
 use Rattle.stream.specs.Streams.{pastStream, areZero, isSound}
 use Rattle.stream.specs.declared.Stream.{Stream}
 use Rattle.stream.proofs.Soundness.{unused-is}
-use Rattle.table.specs.Reach.{has, setOf}
+use Rattle.table.specs.Reach.{hasSource, setOf}
 use Rattle.table.specs.Formed.{isPlaced, areOwned}
 use Rattle.table.proofs.Rules.{frontendsOf}
 use Rattle.table.specs.declared.Session.{Session}
@@ -25,11 +25,11 @@ use Rattle.formed.proofs.Seating.{Tallied}
 
 -- a live stream's place
 module _ (s : Settings) (m : Stream) {r : Bool} (e : r ≡ isSound (s .frontends) m) where
-  pub placed-not : not r ≡ true → false ≡ (isSound (s .frontends) m && has (setOf s (m .frontend)) (m .values .src))
+  pub placed-not : not r ≡ true → false ≡ (isSound (s .frontends) m && hasSource (setOf s (m .frontend)) (m .values .src))
   placed-not q = rw (failed e q)
 
-  pub placed-is : {f sources : ℕ} {x : Bool} → not r ≡ false → f ≡ m .frontend → sources ≡ setOf s f → x ≡ has sources (m .values .src) → x ≡ (isSound (s .frontends) m && has (setOf s (m .frontend)) (m .values .src))
-  placed-is q a b c = c ∙ (ap (λ n. has n (m .values .src)) (b ∙ ap (setOf s) a) ∙ rw (held e q))
+  pub placed-is : {f sources : ℕ} {x : Bool} → not r ≡ false → f ≡ m .frontend → sources ≡ setOf s f → x ≡ hasSource sources (m .values .src) → x ≡ (isSound (s .frontends) m && hasSource (setOf s (m .frontend)) (m .values .src))
+  placed-is q a b c = c ∙ (ap (λ n. hasSource n (m .values .src)) (b ∙ ap (setOf s) a) ∙ rw (held e q))
 
 -- those before place k are sound, and their frontends stand at their IDs
 pub record Sounding (settings : Settings) (ms : List Stream) (feeds : List ℕ) (k : ℕ) : Type 0 where
@@ -67,7 +67,7 @@ module _ {settings : Settings} {k : ℕ} {ms : List Stream} {feeds : List ℕ} (
         e ∙ (sym (unused-is (settings .frontends) m z) ∙ rw (eq-eqb (m .frontend) 0 z) (sym (and-true (isSound (settings .frontends) m))))
 
     -- and a live one with what its frontend reaches
-    pub live-placed : {r : Bool} → (getD ms k pastStream .frontend ≡ 0 → ⊥) → r ≡ (isSound (settings .frontends) (getD ms k pastStream) && has (setOf settings (getD ms k pastStream .frontend)) (getD ms k pastStream .values .src)) → r ≡ isPlaced settings (getD ms k pastStream)
+    pub live-placed : {r : Bool} → (getD ms k pastStream .frontend ≡ 0 → ⊥) → r ≡ (isSound (settings .frontends) (getD ms k pastStream) && hasSource (setOf settings (getD ms k pastStream .frontend)) (getD ms k pastStream .values .src)) → r ≡ isPlaced settings (getD ms k pastStream)
     live-placed z e = e ∙ rw (ne-eqb (getD ms k pastStream .frontend) 0 z)
 
     module _ {r : Bool} (e : r ≡ isPlaced settings (getD ms k pastStream)) where

@@ -12,7 +12,7 @@ ghost use Rattle.stream.specs.Values.{isZero};
 ghost use Rattle.stream.specs.Streams.{isSound};
 ghost use Rattle.stream.specs.declared.Stream.{Stream};
 ghost use Rattle.table.specs.Table.{count, areDistinct, isAmong, isFree, isOpen, owns};
-ghost use Rattle.table.specs.Reach.{has, setOf};
+ghost use Rattle.table.specs.Reach.{hasSource, setOf};
 ghost use Rattle.table.specs.Formed.{isPlaced, areOwned, isSeated, isBlank};
 ghost use Rattle.table.specs.declared.Session.{Session};
 ghost use Rattle.formed.specs.Standings.{oldest, standingOf, isWell, oldestIn};
@@ -151,13 +151,13 @@ fn are_owned(feeds: &[u32], owners: &[u32]) -> bool
 
 // Whether a live stream is sound, and its frontend reaches its src.
 fn is_placed(m: Stream, settings: Settings) -> bool
-    ensures { λ r. ⌜ r ≡ (isSound (settings .frontends) m && has (setOf settings (m .frontend)) (m .values .src)) ⌝ }
+    ensures { λ r. ⌜ r ≡ (isSound (settings .frontends) m && hasSource (setOf settings (m .frontend)) (m .values .src)) ⌝ }
 {
     if !stream::is_sound(m, settings.frontends) {
         return false;
     }
     let v = m.values;
-    table::has(table::set_of(settings, wide(m.frontend)), v.src)
+    table::has_source(table::set_of(settings, wide(m.frontend)), v.src)
 }
 
 // Whether the streams are sound, each on a frontend that reaches its src; their frontends are put at their IDs.

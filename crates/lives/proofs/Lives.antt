@@ -1,7 +1,7 @@
 -- THE LIFE OF A BOX, in seven statements: for every F and C in range, every first journal of C bytes and every sequence of calls that a caller may make
 -- (`Lives`, `isCall`), of the box, the journal and the history after them (`lifeAfter`, the fold of the calls' meanings from a fresh box).
 -- Every call of a life is one that comes after others, so what holds after every sequence holds after every call. Assumes nothing.
-use mathlib.Core.Path.{_≡_, sym, _∙_, ap}
+use mathlib.Core.Path.{_≡_, sym, _∙_, ap, subst}
 use mathlib.Core.Bool.{true, false}
 use mathlib.Core.List.{List, [], _∷_, _++_, map}
 use mathlib.Core.Logic.{_↔_}
@@ -29,6 +29,7 @@ use Rattle.steps.specs.Steps.{isPassed}
 use Rattle.steps.specs.declared.cases.Case.the-variants.{Passed, Full}
 use Rattle.closings.specs.Closing.{bytesOf, Did, isExpired, atClock, sweeping}
 use Rattle.satbox.specs.Calls.{requested, replied}
+use Rattle.promises.proofs.Reaching.{AllReach}
 use Rattle.closings.proofs.DoesLaws.{bytes-append}
 use Rattle.closings.proofs.Keeping.{whole-formed}
 use Rattle.lives.specs.Calls.{Lent, Call, request, order, lacksJournal, isCall, Life, live, run, recordsOf, Lives, lifeAfter}
@@ -73,9 +74,13 @@ module _ (settings : Settings) (j : List ℕ) (cs : List Call) where
     pub journal-has-its-length : length (x .journal) ≡ settings .size
     journal-has-its-length = after-good h .journal
 
-    -- What is fixed when a box is made, F and C, no call moves (`proofs/Settings.settings-stay` says it of each call)
+    -- What is fixed when a box is made, F, C and the sources that each frontend reaches, no call moves (`proofs/Settings.settings-stay` says it of each call)
     pub settings-stay : x .satbox .settings ≡ settings
     settings-stay = after-good h .set
+
+    -- order 1: so a box whose frontends reach all four stays one, and is document 01's in every call (`promises/proofs/Reaching`)
+    pub all-reach-stays : AllReach settings → AllReach (x .satbox .settings)
+    all-reach-stays = subst AllReach (sym settings-stay)
 
     -- 2. THE JOURNAL'S FIRST BYTES HELD ARE EXACTLY THE RECORDS, in order, of the openings and closings since the last collection: `since`, which
     -- the rules give for each call (`records`) and which is not read off the bytes held; their bytes are `bytesOf`,

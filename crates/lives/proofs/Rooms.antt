@@ -17,7 +17,6 @@ use Rattle.table.specs.declared.Settings.{Settings}
 use Rattle.table.specs.declared.SatBox.{SatBox}
 use Rattle.steps.specs.Sights.{Asked, Lists, askedOf, listsOf, sightOf}
 use Rattle.steps.specs.Steps.{isSetup}
-use Rattle.steps.specs.Tests.{namesDead}
 use Rattle.steps.specs.declared.cases.Case.{Case}
 use Rattle.steps.specs.declared.cases.Case.the-variants.{Passed, Full}
 use Rattle.serving.specs.Serving.{hasRoom, canSeat, caseOf, Serving, served, clientOf, answered}

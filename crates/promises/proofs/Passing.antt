@@ -10,14 +10,13 @@ use Rattle.aim.specs.declared.Method.the-variants.{Setup, Teardown}
 use Rattle.stream.specs.declared.Outcome.{Outcome}
 use Rattle.stream.specs.declared.Outcome.the-variants.{Merged, Combination as Clash, TooMany}
 use Rattle.table.specs.Table.{streamOf}
-use Rattle.table.specs.Reach.{has, setOf}
+use Rattle.table.specs.Reach.{hasSource, setOf}
 use Rattle.table.specs.declared.SatBox.{SatBox}
 use Rattle.steps.specs.Sights.{Asked, Lists, sightOf}
 use Rattle.steps.specs.Steps.{isPassed, isSetup, isNamed, tableCase}
-use Rattle.steps.specs.Tests.{lacksPort}
 use Rattle.steps.specs.declared.Sight.{Sight}
 use Rattle.steps.specs.declared.cases.Case.{Case as Verdict}
-use Rattle.steps.specs.declared.cases.Case.the-variants.{Passed, Combination, TooManyPids, NotReached, Full}
+use Rattle.steps.specs.declared.cases.Case.the-variants.{Passed, NotReached, Full}
 use Rattle.steps.proofs.ReplyLaws.{unread-passed, table-unread}
 use Rattle.closings.specs.Does.{Closable}
 use Rattle.serving.specs.Serving.{canJoin, canOpen, sourceOf, feedOf, merging, merges, mergeCase, isUnreached, isOpening, canSeat, caseOf, Serving, grant, denied, served}
@@ -100,10 +99,10 @@ module _ (t : SatBox) (a : Asked) (l : Lists) (p : Changing t a l) where
   through-merged e = merged-only (merging t a l .outcome) (and-other (merges (sightOf t a)) _ (p .query) e)
 
   -- 17, for a src: one that is given is reached by the frontend of the stream
-  pub through-reached : merges (sightOf t a) ≡ true → (a .stream ≡ 0 → ⊥) → (getD (a .codes) 0 0 ≡ 0 → ⊥) → has (setOf (t .settings) (streamOf t (a .stream) .frontend)) (getD (a .codes) 0 0) ≡ true
+  pub through-reached : merges (sightOf t a) ≡ true → (a .stream ≡ 0 → ⊥) → (getD (a .codes) 0 0 ≡ 0 → ⊥) → hasSource (setOf (t .settings) (streamOf t (a .stream) .frontend)) (getD (a .codes) 0 0) ≡ true
   unfolding sightOf
   through-reached e some given =
-      let r : not (has (setOf (t .settings) (streamOf t (a .stream) .frontend)) (getD (a .codes) 0 0)) ≡ false = rw (ne-eqb (a .stream) 0 some, ne-eqb (getD (a .codes) 0 0) 0 given) at (and-other (merges (sightOf t a)) _ (p .src) e) in
+      let r : not (hasSource (setOf (t .settings) (streamOf t (a .stream) .frontend)) (getD (a .codes) 0 0)) ≡ false = rw (ne-eqb (a .stream) 0 some, ne-eqb (getD (a .codes) 0 0) 0 given) at (and-other (merges (sightOf t a)) _ (p .src) e) in
       not-false _ r
 
   -- 18: an opening has all that it takes

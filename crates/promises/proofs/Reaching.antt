@@ -1,27 +1,25 @@
 -- ORDER 1 OF DOCUMENT 02, "Not every tuner sees every dish": what the choice of a frontend is, what a well-formed table says of the sources, and
 -- that a box whose frontends reach all four is the box of document 01. Assumes nothing.
 use mathlib.Core.Path.{_≡_, refl, sym, _∙_, ap}
-use mathlib.Core.Bool.{Bool, true, false, not, cond, _&&_, _||_, and-true, and-false}
-use mathlib.Core.List.{List, [], _∷_}
+use mathlib.Core.Bool.{Bool, true, false, not, _&&_, _||_, or-true, and-true, and-false}
+use mathlib.Core.List.{[]}
 use Prim.Native.Nat.{ℕ, zero, suc, _+_, _≤_, _<_}
 use native.Mathlib.Omega.{arith}
 use lib.Dec.{eqb, leb}
-use lib.ListN.{length, getD, replicate}
-use borrow.Author.Tests.{eq-eqb, ne-eqb, leb-true, le-leb}
+use lib.ListN.{getD, replicate}
+use borrow.Author.Tests.{eq-eqb, ne-eqb, leb-true, leb-false}
 use Rattle.scan.specs.Lists.{isBetween, _gives_or_}
-use Rattle.scan.proofs.Bools.{never, and-both, both, or-second, Case as Test, is, isnt, case, Same, same, other, sames}
-use Rattle.table.specs.Table.{streamOf, isDead}
-use Rattle.table.specs.Reach.{has, sizeOf, setOf, upTo}
+use Rattle.scan.proofs.Bools.{never, and-both, or-second, Case as Test, is, isnt, case, Same, same, other, sames}
+use Rattle.table.specs.Table.{streamOf}
+use Rattle.table.specs.Reach.{hasSource, sizeOf, setOf, upTo}
 use Rattle.table.specs.Made.{settingsOf}
 use Rattle.table.specs.declared.Settings.{Settings}
 use Rattle.table.specs.declared.SatBox.{SatBox}
 use Rattle.table.proofs.Changes.{placed-at}
-use Rattle.finding.specs.Finding.{isHeld, canFeed, sizeAt, choice}
-use Rattle.finding.proofs.Frontends.{IsChoice, choice-is, choice-none}
+use Rattle.finding.specs.Finding.{isHeld, canFeed, sizeAt, fewestFrom, choice}
 use Rattle.closings.proofs.Keeping.{Whole, frontends-few}
 use Rattle.steps.specs.Sights.{Asked, Lists, sightOf}
 use Rattle.steps.specs.Steps.{isPassed, looksUp, tableCase}
-use Rattle.steps.specs.declared.Sight.{Sight}
 use Rattle.steps.specs.declared.cases.Case.{Case}
 use Rattle.steps.specs.declared.cases.Case.the-variants.{Passed, Full}
 use Rattle.serving.specs.Serving.{sourceOf, merging, merges, mergeCase, isUnreached, isOpening, canSeat, caseOf}
@@ -35,6 +33,105 @@ use Rattle.stream.specs.Arrays.{isInRange, isFit, areFit}
 use Rattle.stream.proofs.Soundness.{sound-live}
 use Rattle.table.proofs.Rules.{placed-sound}
 use Rattle.steps.proofs.ReplyLaws.{unread-passed, table-unread}
+
+-- WHAT THE CHOICE IS: free, reaching the source; no other such reaches fewer, and none that reaches as few has a lower number
+pub record IsChoice (t : SatBox) (source f : ℕ) : Type 0 where
+  pub feeds : canFeed t source f ≡ true
+  pub fewest : (g : ℕ) → canFeed t source g ≡ true → sizeAt t f ≤ sizeAt t g
+  pub lowest : (g : ℕ) → canFeed t source g ≡ true → sizeAt t g ≡ sizeAt t f → f ≤ g
+
+-- it is so among the `more` frontends from f on, or it is 0 and none of them can feed the stream
+record Chosen (t : SatBox) (source more f g : ℕ) : Type 0 where
+  can : (g ≡ 0 → ⊥) → (canFeed t source g ≡ true) × (f ≤ g)
+  none : g ≡ 0 → (h : ℕ) → f ≤ h → h < f + more → canFeed t source h ≡ false
+  fewest : (h : ℕ) → f ≤ h → h < f + more → canFeed t source h ≡ true → sizeAt t g ≤ sizeAt t h
+  lowest : (h : ℕ) → f ≤ h → h < f + more → canFeed t source h ≡ true → sizeAt t h ≡ sizeAt t g → g ≤ h
+
+module _ (t : SatBox) (source : ℕ) where
+  -- a frontend before those that were looked at is taken, or it is not
+  taken : (more f g : ℕ) → 1 ≤ f → Chosen t source more (suc f) g → canFeed t source f && (eqb g 0 || leb (sizeAt t f) (sizeAt t g)) ≡ true → Chosen t source (suc more) f f
+  taken more f g low r y =
+      let a = and-both (canFeed t source f) _ y in
+      record {
+        can = λ _. (a .0, omega arith);
+        none = λ z. absurd (omega arith);
+        fewest = λ h l u e. by h l u e (sames f h) (sames g 0) (a .1);
+        lowest = λ h l u e z. l;
+      }
+    where
+      by : (h : ℕ) → f ≤ h → h < f + suc more → canFeed t source h ≡ true → Same f h → Same g 0 → eqb g 0 || leb (sizeAt t f) (sizeAt t g) ≡ true → sizeAt t f ≤ sizeAt t h
+      by h l u e (same q) c k = rw q (omega arith)
+      by h l u e (other q) (same z) k = never e (r .none z h (omega arith) (omega arith))
+      by h l u e (other q) (other z) k =
+          omega (arith, leb-true (sizeAt t f) (sizeAt t g) (rw (ne-eqb g 0 z) at k), r .fewest h (omega arith) (omega arith) e)
+
+  passed : (more f g : ℕ) → Chosen t source more (suc f) g → canFeed t source f && (eqb g 0 || leb (sizeAt t f) (sizeAt t g)) ≡ false → Chosen t source (suc more) f g
+  passed more f g r n =
+      record {
+        can = λ z. let c = r .can z in (c .0, omega (arith, c .1));
+        none = λ z h l u. empty z h l u (sames f h) (case (canFeed t source f));
+        fewest = λ h l u e. by h l u e (sames f h);
+        lowest = λ h l u e z. low h l u e z (sames f h);
+      }
+    where
+      empty : g ≡ 0 → (h : ℕ) → f ≤ h → h < f + suc more → Same f h → Test (canFeed t source f) → canFeed t source h ≡ false
+      empty z h l u (same q) (is y) = never (rw (y, eq-eqb g 0 z)) n
+      empty z h l u (same q) (isnt y) = rw (← q) y
+      empty z h l u (other q) c = r .none z h (omega arith) (omega arith)
+
+      more-of : canFeed t source f ≡ true → sizeAt t g < sizeAt t f
+      more-of y = smaller (case (leb (sizeAt t f) (sizeAt t g)))
+        where
+          smaller : Test (leb (sizeAt t f) (sizeAt t g)) → sizeAt t g < sizeAt t f
+          smaller (is z) = never (rw (y, z) (or-true (eqb g 0))) n
+          smaller (isnt z) = leb-false _ _ z
+
+      by : (h : ℕ) → f ≤ h → h < f + suc more → canFeed t source h ≡ true → Same f h → sizeAt t g ≤ sizeAt t h
+      by h l u e (same q) = rw (← q) (omega (arith, more-of (rw q e)))
+      by h l u e (other q) = r .fewest h (omega arith) (omega arith) e
+
+      low : (h : ℕ) → f ≤ h → h < f + suc more → canFeed t source h ≡ true → sizeAt t h ≡ sizeAt t g → Same f h → g ≤ h
+      low h l u e z (same q) = absurd (omega (arith, more-of (rw q e), ap (sizeAt t) q))
+      low h l u e z (other q) = r .lowest h (omega arith) (omega arith) e z
+
+  chosen : (more f : ℕ) → 1 ≤ f → Chosen t source more f (fewestFrom t source more f)
+  chosen zero f low =
+      record {
+        can = λ z. absurd (z refl);
+        none = λ z h l u. absurd (omega arith);
+        fewest = λ h l u e. absurd (omega arith);
+        lowest = λ h l u e z. absurd (omega arith);
+      }
+  chosen (suc more) f low = by (case _) (chosen more (suc f) (omega arith))
+    where
+      by : Test (canFeed t source f && (eqb (fewestFrom t source more (suc f)) 0 || leb (sizeAt t f) (sizeAt t (fewestFrom t source more (suc f))))) → Chosen t source more (suc f) (fewestFrom t source more (suc f)) → Chosen t source (suc more) f (fewestFrom t source (suc more) f)
+      by (is y) r = rw y (taken more f _ low r y)
+      by (isnt n) r = rw n (passed more f _ r n)
+
+  -- THE CHOICE IS THAT ONE, where there is one, and 0 where there is none
+  module _ (few : t .settings .frontends ≤ 8) where
+    within : (g : ℕ) → canFeed t source g ≡ true → (1 ≤ g) × (g < 9)
+    within g e =
+        let b = and-both (leb 1 g) _ (and-both (isBetween 1 (t .settings .frontends) g) _ e .0) in
+        (leb-true _ _ (b .0), omega (arith, leb-true g (t .settings .frontends) (b .1)))
+
+    pub choice-is : (choice t source ≡ 0 → ⊥) → IsChoice t source (choice t source)
+    unfolding choice
+    choice-is some =
+        let r = chosen 8 1 (omega arith) in
+        record {
+          feeds = r .can some .0;
+          fewest = λ g e. r .fewest g (within g e .0) (omega (arith, within g e .1)) e;
+          lowest = λ g e. r .lowest g (within g e .0) (omega (arith, within g e .1)) e;
+        }
+
+    pub choice-none : choice t source ≡ 0 → (g : ℕ) → canFeed t source g ≡ false
+    unfolding choice
+    choice-none z g = by (case _)
+      where
+        by : Test (canFeed t source g) → canFeed t source g ≡ false
+        by (is y) = chosen 8 1 (omega arith) .none z g (within g y .0) (omega (arith, within g y .1))
+        by (isnt n) = n
 
 -- THE CHOICE: where a free frontend reaches the src, the one that is chosen is free and reaches it, no other such has a smaller set, and none of
 -- equal size a lower number; where none does, none is chosen
@@ -50,7 +147,7 @@ module _ (t : SatBox) (w : Whole t) (source : ℕ) where
       by (other z) = never (choice-is t source (frontends-few t w) z .feeds) (h (choice t source))
 
 -- "each stream's frontend reaches its src"
-pub stream-reached : (t : SatBox) → Whole t → (id : ℕ) → (streamOf t id .frontend ≡ 0 → ⊥) → has (setOf (t .settings) (streamOf t id .frontend)) (streamOf t id .values .src) ≡ true
+pub stream-reached : (t : SatBox) → Whole t → (id : ℕ) → (streamOf t id .frontend ≡ 0 → ⊥) → hasSource (setOf (t .settings) (streamOf t id .frontend)) (streamOf t id .values .src) ≡ true
 stream-reached t w id live = or-second _ _ (and-both (isSound (t .settings .frontends) (streamOf t id)) _ (placed-at (t .settings) (t .streams) (w .formed .rows) id) .1) (ne-eqb _ 0 live)
 
 -- AS BEFORE: every set is full
@@ -72,7 +169,7 @@ settings-reach frontends size few = record { full = λ f low high. by f low high
     by (suc k) low high = up frontends k 8 (omega arith) (omega arith)
 
 -- a source that a stream may have is in the full set
-full-has : (source : ℕ) → 1 ≤ source → source ≤ 4 → has 15 source ≡ true
+full-has : (source : ℕ) → 1 ≤ source → source ≤ 4 → hasSource 15 source ≡ true
 full-has zero low high = absurd (omega arith)
 full-has (suc zero) low high = refl
 full-has (suc (suc zero)) low high = refl
@@ -137,7 +234,7 @@ module _ (t : SatBox) (w : Whole t) (all : AllReach (t .settings)) (a : Asked) (
   unfolding sightOf
   src-is-reached live = by (sames (getD (a .codes) 0 0) 0)
     where
-      by : Same (getD (a .codes) 0 0) 0 → (not (eqb (getD (a .codes) 0 0) 0) && not (has (setOf (t .settings) (streamOf t (a .stream) .frontend)) (getD (a .codes) 0 0))) ≡ false
+      by : Same (getD (a .codes) 0 0) 0 → (not (eqb (getD (a .codes) 0 0) 0) && not (hasSource (setOf (t .settings) (streamOf t (a .stream) .frontend)) (getD (a .codes) 0 0))) ≡ false
       by (same z) = rw (eq-eqb (getD (a .codes) 0 0) 0 z)
       by (other z) =
           let r = src-range z in

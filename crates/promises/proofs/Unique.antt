@@ -199,8 +199,8 @@ table-fresh κs a x y v w = same
 pub table-are-settings : Unique table.are_settings.ended table.are_settings.Reads.Post
 table-are-settings κs a x y v w = same
 
-pub table-has : Unique table.has.ended table.has.Reads.Post
-table-has κs a x y v w = same
+pub table-has-source : Unique table.has_source.ended table.has_source.Reads.Post
+table-has-source κs a x y v w = same
 
 pub table-size-of : Unique table.size_of.ended table.size_of.Reads.Post
 table-size-of κs a x y v w = same

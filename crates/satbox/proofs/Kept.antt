@@ -15,7 +15,7 @@ use Rattle.stream.specs.declared.Stream.{Stream}
 use Rattle.stream.specs.declared.Outcome.the-variants.{Merged}
 use Rattle.stream.proofs.Keeping.{merge-sound, merge-frontend, merge-src}
 use Rattle.table.specs.Table.{streamOf, isDead}
-use Rattle.table.specs.Reach.{has, setOf}
+use Rattle.table.specs.Reach.{hasSource, setOf}
 use Rattle.table.specs.Formed.{areSettings, isPlaced}
 use Rattle.table.specs.Made.{fresh}
 use Rattle.table.specs.declared.Settings.{Settings}
@@ -86,13 +86,13 @@ restreamed-whole id m t w h good e =
     }
 
 module _ (id : ℕ) (codes pids delpids addpids : List ℕ) (t : SatBox) (w : Whole t) (live : streamOf t id .frontend ≡ 0 → ⊥) (fit : areFit codes ≡ true)
-    (reached : (getD codes 0 0 ≡ 0 → ⊥) → has (setOf (t .settings) (streamOf t id .frontend)) (getD codes 0 0) ≡ true)
+    (reached : (getD codes 0 0 ≡ 0 → ⊥) → hasSource (setOf (t .settings) (streamOf t id .frontend)) (getD codes 0 0) ≡ true)
     (e : mergeOf (streamOf t id) codes pids delpids addpids .outcome ≡ Merged) where
-  was : (isSound (t .settings .frontends) (streamOf t id) ≡ true) × (isDead (streamOf t id) || has (setOf (t .settings) (streamOf t id .frontend)) (streamOf t id .values .src) ≡ true)
+  was : (isSound (t .settings .frontends) (streamOf t id) ≡ true) × (isDead (streamOf t id) || hasSource (setOf (t .settings) (streamOf t id .frontend)) (streamOf t id .values .src) ≡ true)
   was = and-both _ _ (placed-at (t .settings) (t .streams) (w .formed .rows) id)
 
   -- a src that is given is reached, and so is the one that was there
-  reached-by : Same (getD codes 0 0) 0 → has (setOf (t .settings) (streamOf t id .frontend)) (given (getD codes 0 0) (streamOf t id .values .src)) ≡ true
+  reached-by : Same (getD codes 0 0) 0 → hasSource (setOf (t .settings) (streamOf t id .frontend)) (given (getD codes 0 0) (streamOf t id .values .src)) ≡ true
   reached-by (same q) = rw (eq-eqb (getD codes 0 0) 0 q) (or-second _ _ (was .1) (ne-eqb _ 0 live))
   reached-by (other q) = rw (ne-eqb (getD codes 0 0) 0 q) (reached q)
 

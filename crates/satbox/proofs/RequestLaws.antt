@@ -32,7 +32,7 @@ use Rattle.steps.specs.Sights.{Asked, Lists, askedOf, listsOf, sightOf}
 use Rattle.steps.specs.Steps.{isPassed, isNamed, tableCase}
 use Rattle.steps.specs.Replies.{replyText}
 use Rattle.steps.specs.Handed.{replyTo}
-use Rattle.steps.specs.declared.cases.Case.the-variants.{Passed, Reading, Combination, TooManyPids, NotReached, Full}
+use Rattle.steps.specs.declared.cases.Case.the-variants.{Passed, Reading, NotReached, Full}
 use Rattle.steps.proofs.ReplyLaws.{Follows, follows-passed, follows-refused, isReading, unread-chain, table-unread, reply-told, Numbers, reply-fits}
 use Rattle.closings.specs.Does.{Does}
 use Rattle.closings.specs.Closing.{swept, sweeping, atClock, bytesOf}

@@ -3,11 +3,10 @@ use Prim.Native.Nat.{ℕ, _+_, _*_}
 use mathlib.Core.Bool.{Bool, not, _&&_, cond, _||_}
 use lib.Dec.{leb, ltb, eqb}
 use lib.ListN.{length, set}
-use Rattle.scan.specs.Lists.{_gives_or_}
 use Rattle.journal.specs.Records.{recordSize}
 use Rattle.stream.specs.declared.Stream.{Stream}
 use Rattle.table.specs.Table.{openCount, streamOf, isLive, noSession, owns, boxWith, sessionWith}
-use Rattle.table.specs.Reach.{has}
+use Rattle.table.specs.Reach.{hasSource}
 use Rattle.finding.specs.Finding.{lowestPlace, lowestId, canFeed, choice, drawn}
 use Rattle.table.specs.declared.Session.{Session}
 use Rattle.table.specs.declared.SatBox.{SatBox}
@@ -29,6 +28,7 @@ use Rattle.steps.specs.Steps.{isPassed, isSetup, isNamed, tableCase}
 use Rattle.steps.specs.declared.Sight.{Sight}
 use Rattle.steps.specs.declared.cases.Case.{Case}
 use Rattle.steps.specs.declared.cases.Case.the-variants.{Passed, Combination, TooManyPids, NotReached, Full, Reading}
+use Rattle.scan.specs.Lists.{_gives_or_}
 
 -- not "no free session place"
 abbrev pub hasPlace : SatBox → Bool
@@ -90,7 +90,7 @@ mergeCase TooMany = TooManyPids
 
 -- 17, by order 1: "a later src that the held frontend does not reach"
 abbrev pub isUnreached : Sight → Bool
-isUnreached v = not (eqb (v .src) 0) && not (has (v .reach) (v .src))
+isUnreached v = not (eqb (v .src) 0) && not (hasSource (v .reach) (v .src))
 
 -- an opening is a SETUP without a session
 abbrev pub isOpening : Sight → Bool

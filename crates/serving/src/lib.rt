@@ -125,7 +125,7 @@ fn after(v: Sight) -> Session
 fn is_unreached(v: Sight) -> bool
     ensures { λ r. ⌜ r ≡ isUnreached v ⌝ }
 {
-    !(v.src == 0) & !table::has(v.reach, v.src)
+    !(v.src == 0) & !table::has_source(v.reach, v.src)
 }
 
 // A SETUP or a PLAY of an open session: its owner's query is merged into its stream.

@@ -7,7 +7,7 @@ use native.Mathlib.Omega.{arith}
 use lib.Dec.{eqb, leb, ltb}
 use lib.ListN.{length}
 use borrow.Author.Tests.{eqb-true, eqb-false, le-leb, leb-true}
-use Rattle.scan.specs.Lists.{_gives_or_, part, all}
+use Rattle.scan.specs.Lists.{part, all, _gives_or_}
 use Rattle.scan.specs.Found.{Holds}
 use Rattle.scan.specs.declared.Span.{Span}
 use Rattle.scan.proofs.Bools.{never, and-both, by-test, cond-keeps}
@@ -20,7 +20,7 @@ use Rattle.lines.specs.Lines.{isLaidOut, requestLine, headerLines}
 use Rattle.lines.specs.Headers.{valuesOf}
 use Rattle.lines.specs.Laid.{firstValue}
 use Rattle.target.specs.Line.{isThree}
-use Rattle.target.specs.Uri.{isUri, hostOf, hasQuery, queryOf}
+use Rattle.target.specs.Uri.{isUri, hostOf, hasQuery}
 use Rattle.aim.specs.Query.{partsOf, areParts}
 use Rattle.aim.specs.Found.{nowhere, isWithin, takesNoQuery, lacksStream}
 use Rattle.aim.specs.Aim.{hasStream, isGiven, edits, uriRefusal}

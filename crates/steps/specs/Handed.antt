@@ -6,7 +6,7 @@ use mathlib.Core.Bool.{cond}
 use mathlib.Core.List.{List}
 use lib.Dec.{eqb, ltb}
 use lib.ListN.{getD}
-use Rattle.scan.specs.Lists.{_gives_or_, part}
+use Rattle.scan.specs.Lists.{part, _gives_or_}
 use Rattle.scan.specs.Found.{Holds}
 use Rattle.scan.specs.declared.Span.{Span}
 use Rattle.aim.specs.Found.{nowhere}

@@ -1,7 +1,7 @@
 -- The refusals of steps 1 to 18, each with its step and its status, 0 and 200 where nothing refuses; and steps 11 to 15, in order. Assumes nothing.
 use Prim.Native.Nat.{ℕ}
 use lib.Dec.{eqb, ltb}
-use mathlib.Core.Bool.{Bool, true, false, not, _&&_, _||_}
+use mathlib.Core.Bool.{Bool, not, _&&_, _||_}
 use Rattle.steps.specs.declared.cases.Case.{Case}
 use Rattle.steps.specs.declared.cases.Case.the-variants.{Passed, Reading, NoSession, NotLive, State, NotOwner, Transport, Combination, TooManyPids, NotReached, Full}
 use Rattle.refusals.specs.Refusals.{readingRule}

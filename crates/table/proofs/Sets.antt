@@ -2,7 +2,7 @@
 use mathlib.Core.Path.{_≡_, refl, sym, _∙_, ap}
 use mathlib.Core.Bool.{Bool, true, false, not, cond, _&&_, and-true, and-false, Bool·beq}
 use mathlib.Core.List.{List, [], _∷_}
-use Prim.Native.Nat.{ℕ, zero, suc, _+_, _-_, _*_, _/_, _%_, _^_, _≤_, _<_}
+use Prim.Native.Nat.{ℕ, zero, suc, _+_, _-_, _/_, _%_, _^_, _≤_, _<_}
 use native.Mathlib.Omega.{arith}
 use lib.Dec.{eqb, leb, ltb}
 use lib.ListN.{length, getD, set, drop, length-set, List·getD-eq-default}
@@ -10,18 +10,18 @@ use borrow.Author.Tests.{lt-leb, le-leb, ltb-true, ltb-false, ne-eqb}
 use Rattle.scan.proofs.Bools.{Case, is, isnt, case, Same, same, other, sames}
 use Rattle.scan.specs.Lists.{isBetween}
 use Rattle.scan.proofs.Loops.{turn, end}
-use Rattle.table.specs.Reach.{has, sizeOf, setOf, areSets, upTo}
+use Rattle.table.specs.Reach.{hasSource, sizeOf, setOf, areSets, upTo}
 use Rattle.table.specs.declared.Settings.{Settings}
 
 -- A SOURCE IN A SET
 module _ (set source : ℕ) where
-  pub has-low : source < 1 → false ≡ has set source
+  pub has-low : source < 1 → false ≡ hasSource set source
   has-low h = rw (lt-leb 1 source h)
 
-  pub has-high : 4 < source → false ≡ has set source
+  pub has-high : 4 < source → false ≡ hasSource set source
   has-high h = rw (le-leb 1 source (omega arith), lt-leb source 4 h)
 
-  pub has-bit : 1 ≤ source → source ≤ 4 → eqb (set / 2 ^ (source - 1) % 2) 1 ≡ has set source
+  pub has-bit : 1 ≤ source → source ≤ 4 → eqb (set / 2 ^ (source - 1) % 2) 1 ≡ hasSource set source
   has-bit h k = rw (le-leb 1 source h, le-leb source 4 k)
 
 -- HOW MANY

@@ -8,7 +8,7 @@ use Rattle.journal.specs.Records.{recordSize}
 use Rattle.stream.specs.Streams.{isSound}
 use Rattle.stream.specs.declared.Stream.{Stream}
 use Rattle.table.specs.Table.{count, areDistinct, isFree, openCount, streamOf, isDead, isLive, owns}
-use Rattle.table.specs.Reach.{has, setOf, areSets}
+use Rattle.table.specs.Reach.{hasSource, setOf, areSets}
 use Rattle.table.specs.declared.Session.{Session}
 use Rattle.table.specs.declared.Settings.{Settings}
 use Rattle.table.specs.declared.SatBox.{SatBox}
@@ -23,7 +23,7 @@ areSettings s = areSizes s && areSets (s .frontends) (s .reach)
 
 -- a stream's own rules are `isSound`; order 1: "each stream's frontend reaches its src"
 abbrev pub isPlaced : Settings → Stream → Bool
-isPlaced s m = isSound (s .frontends) m && (isDead m || has (setOf s (m .frontend)) (m .values .src))
+isPlaced s m = isSound (s .frontends) m && (isDead m || hasSource (setOf s (m .frontend)) (m .values .src))
 
 -- "each live stream has exactly one open owner"; the streams' IDs count on from the first's
 abbrev pub areOwned : List Session → ℕ → List Stream → Bool

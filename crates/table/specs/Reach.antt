@@ -11,12 +11,12 @@ use Rattle.table.specs.Table.{count}
 use Rattle.table.specs.declared.Settings.{Settings}
 
 -- a source, 1 to 4, is in a set
-abbrev pub has : ℕ → ℕ → Bool
-has set source = isBetween 1 4 source && eqb (set / 2 ^ (source - 1) % 2) 1
+abbrev pub hasSource : ℕ → ℕ → Bool
+hasSource set source = isBetween 1 4 source && eqb (set / 2 ^ (source - 1) % 2) 1
 
 -- how many are
 abbrev pub sizeOf : ℕ → ℕ
-sizeOf set = count (has set) (1 ∷ 2 ∷ 3 ∷ 4 ∷ [])
+sizeOf set = count (hasSource set) (1 ∷ 2 ∷ 3 ∷ 4 ∷ [])
 
 -- the set of a frontend; frontends count from 1, and there is none of 0
 abbrev pub setOf : Settings → ℕ → ℕ

@@ -5,7 +5,7 @@ mod reach;
 
 pub use numbers::are_distinct;
 pub use numbers::is_among;
-pub use reach::has;
+pub use reach::has_source;
 pub use reach::set_of;
 pub use reach::size_of;
 ghost use mathlib.Core.Path.{_≡_};

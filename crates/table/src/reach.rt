@@ -1,14 +1,14 @@
 // Order 1 of document 02: the set of sources that each frontend reaches, four bits of which the lowest is source 1.
 ghost use mathlib.Core.Path.{_≡_};
-ghost use Rattle.table.specs.Reach.{has, sizeOf, setOf, areSets, upTo};
+ghost use Rattle.table.specs.Reach.{hasSource, sizeOf, setOf, areSets, upTo};
 use crate::Settings;
 
 // The set of all four sources.
 const ALL: u8 = 15;
 
 // Whether a source is in a set.
-pub fn has(set: u8, source: u32) -> bool
-    ensures { λ r. ⌜ r ≡ has set source ⌝ }
+pub fn has_source(set: u8, source: u32) -> bool
+    ensures { λ r. ⌜ r ≡ hasSource set source ⌝ }
 {
     if source < 1 {
         return false;

@@ -21,7 +21,7 @@ loop-again c =
     let l = c .before .before .before .before .loop .inv in
     let sets = c .before .before .before .before .before .before .free-sets .result in
     let size = c .before .before .size-of .ensures in
-    let fits = c .before .has .ensures in
+    let fits = c .before .has-source .ensures in
     let low = c .before .before .before .loop-test .taken in (
       omega (arith, l .0),
       λ t e q.

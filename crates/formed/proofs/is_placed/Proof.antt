@@ -7,7 +7,7 @@ use Rattle.formed.proofs.is_placed.Tie as tie
 returns-2 : tie.Need-returns-2
 returns-2 c =
     let v = c .before .before .before .before in
-    placed-is (v .before .before .args .settings) (v .before .before .args .m) (v .before .is-sound .ensures) (v .if1 .left) (c .before .before .wide .ensures) (c .before .set-of .ensures) (c .has .ensures)
+    placed-is (v .before .before .args .settings) (v .before .before .args .m) (v .before .is-sound .ensures) (v .if1 .left) (c .before .before .wide .ensures) (c .before .set-of .ensures) (c .has-source .ensures)
 
 pub is-placed-spec : {M : Type 1} → statement M
 is-placed-spec =

@@ -4,4 +4,4 @@ use Rattle.serving.proofs.is_unreached.Statement.{statement}
 use Rattle.serving.proofs.is_unreached.Tie as tie
 
 pub is-unreached-spec : {M : Type 1} → statement M
-is-unreached-spec = tie.close (tie.spec (λ c κs. search needs) (λ c. rw (c .has .ensures)))
+is-unreached-spec = tie.close (tie.spec (λ c κs. search needs) (λ c. rw (c .has-source .ensures)))
