@@ -50,7 +50,7 @@ changing t a l e =
     record { query = m .0; src = r .0; seat = s .0 }
 
 -- ALL OF THEM
-through : (t : SatBox) (a : Asked) (l : Lists) → caseOf t a l ≡ Passed → Untested (sightOf t a) × Changing t a l
+pub through : (t : SatBox) (a : Asked) (l : Lists) → caseOf t a l ≡ Passed → Untested (sightOf t a) × Changing t a l
 unfolding caseOf
 through t a l e = by (case (isPassed (tableCase (sightOf t a))))
   where

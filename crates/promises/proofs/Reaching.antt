@@ -169,7 +169,7 @@ settings-reach frontends size few = record { full = λ f low high. by f low high
     by (suc k) low high = up frontends k 8 (omega arith) (omega arith)
 
 -- a source that a stream may have is in the full set
-full-has : (source : ℕ) → 1 ≤ source → source ≤ 4 → hasSource 15 source ≡ true
+pub full-has : (source : ℕ) → 1 ≤ source → source ≤ 4 → hasSource 15 source ≡ true
 full-has zero low high = absurd (omega arith)
 full-has (suc zero) low high = refl
 full-has (suc (suc zero)) low high = refl
@@ -204,9 +204,9 @@ module _ (t : SatBox) (all : AllReach (t .settings)) (source : ℕ) (low : 1 ≤
             let b = and-both (leb 1 f) _ (and-both (isBetween 1 (t .settings .frontends) f) _ y .0) in
             all .full f (leb-true _ _ (b .0)) (leb-true _ _ (b .1))
 
--- DOCUMENT 01'S STEPS 11 TO 18, which know no src at 17
-unfoldable pub caseBefore : SatBox → Asked → Lists → Case
-caseBefore t a l =
+-- STEPS 11 TO 18 WITHOUT A SRC AT 17, as document 01 has them
+unfoldable pub caseWithout : SatBox → Asked → Lists → Case
+caseWithout t a l =
     not (isPassed (tableCase (sightOf t a))) gives tableCase (sightOf t a) or
     (merges (sightOf t a) && not (isPassed (mergeCase (merging t a l .outcome)))) gives mergeCase (merging t a l .outcome) or
     (isOpening (sightOf t a) && not (canSeat t (sightOf t a))) gives Full or
@@ -256,17 +256,17 @@ module _ (t : SatBox) (w : Whole t) (all : AllReach (t .settings)) (a : Asked) (
   live-merged m p z q =
       never (rw (looked-up (a .method) (and-both (eqb (methodNumber (a .method)) 1 || eqb (methodNumber (a .method)) 2) _ m .0), ne-eqb (a .stream) 0 z, eq-eqb (streamOf t (a .stream) .frontend) 0 q)) (untested (sightOf t a) p .stream)
 
-  -- THE CASE of every request is that of document 01
-  pub case-as-before : (l : Lists) → caseOf t a l ≡ caseBefore t a l
-  unfolding caseOf caseBefore
-  case-as-before l = by (case (isPassed (tableCase (sightOf t a))))
+  -- so that the line of step 17 is not missed
+  pub case-without : (l : Lists) → caseOf t a l ≡ caseWithout t a l
+  unfolding caseOf caseWithout
+  case-without l = by (case (isPassed (tableCase (sightOf t a))))
     where
       silent : tableCase (sightOf t a) ≡ Passed → Test (merges (sightOf t a)) → Same (a .stream) 0 → (merges (sightOf t a) && (not (eqb (a .stream) 0) && isUnreached (sightOf t a))) ≡ false
       silent p (isnt n) c = rw n
       silent p (is m) (same z) = rw (m, z)
       silent p (is m) (other z) = rw (m, src-is-reached (live-merged m p z), and-false (not (eqb (a .stream) 0)))
 
-      by : Test (isPassed (tableCase (sightOf t a))) → caseOf t a l ≡ caseBefore t a l
+      by : Test (isPassed (tableCase (sightOf t a))) → caseOf t a l ≡ caseWithout t a l
       by (isnt n) = rw n
       by (is y) =
           let p = unread-passed (tableCase (sightOf t a)) (table-unread (sightOf t a)) y in

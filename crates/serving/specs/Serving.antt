@@ -100,7 +100,8 @@ isOpening v = isSetup (v .method) && not (isNamed v)
 abbrev pub canSeat : SatBox → Sight → Bool
 canSeat t v = cond (eqb (v .stream) 0) (canOpen (sourceOf v) (feedOf t v) t) (canJoin (v .stream) t)
 
--- THE CASE of a request that steps 1 to 10 let through: 11 to 15; 16 and 17, where its query is merged; 18: "Opening: .."
+-- THE CASE of a request that steps 1 to 10 let through: 11 to 15; 16 and 17, where its query is merged, and 17 for the src of a live stream; 18:
+-- "Opening: .."
 unfoldable pub caseOf : SatBox → Asked → Lists → Case
 caseOf t a l =
     not (isPassed (tableCase (sightOf t a))) gives tableCase (sightOf t a) or

@@ -41,8 +41,8 @@ pub fn set_of(settings: Settings, frontend: u32) -> u8
     reach[f - 1]
 }
 
-// Whether the first sets, of the frontends, have sources and none beyond the fourth, and the others are empty. All are looked at, so that the
-// compiler may compare them at once.
+// Whether the first sets, of the frontends, have sources and none beyond the fourth, and the others are empty. There is no way out inside: with one
+// the compiler copies the table that is looked at once more.
 pub(crate) fn are_sets(reach: &[u8], frontends: usize) -> bool
     ensures { λ r. ⌜ r ≡ areSets frontends (now (reach .entry)) ⌝ }
 {
