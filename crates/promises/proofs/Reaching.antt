@@ -7,7 +7,7 @@ use Prim.Native.Nat.{ℕ, zero, suc, _+_, _≤_, _<_}
 use native.Mathlib.Omega.{arith}
 use lib.Dec.{eqb, leb}
 use lib.ListN.{getD, replicate}
-use borrow.Author.Tests.{eq-eqb, ne-eqb, leb-true, leb-false}
+use borrow.Author.Tests.{eq-eqb, ne-eqb, leb-true, leb-false, le-leb, not-true}
 use Rattle.scan.specs.Lists.{isBetween, _gives_or_}
 use Rattle.scan.proofs.Bools.{never, and-both, or-second, Case as Test, is, isnt, case, Same, same, other, sames}
 use Rattle.table.specs.Table.{streamOf}
@@ -34,11 +34,29 @@ use Rattle.stream.proofs.Soundness.{sound-live}
 use Rattle.table.proofs.Rules.{placed-sound}
 use Rattle.steps.proofs.ReplyLaws.{unread-passed, table-unread}
 
+-- a free frontend of the box that reaches the source
+pub record Fits (t : SatBox) (source f : ℕ) : Type 0 where
+  pub low : 1 ≤ f
+  pub high : f ≤ t .settings .frontends
+  pub free : isHeld f (t .streams) ≡ false
+  pub reaches : hasSource (setOf (t .settings) f) source ≡ true
+
 -- WHAT THE CHOICE IS: free, reaching the source; no other such reaches fewer, and none that reaches as few has a lower number
 pub record IsChoice (t : SatBox) (source f : ℕ) : Type 0 where
-  pub feeds : canFeed t source f ≡ true
-  pub fewest : (g : ℕ) → canFeed t source g ≡ true → sizeAt t f ≤ sizeAt t g
-  pub lowest : (g : ℕ) → canFeed t source g ≡ true → sizeAt t g ≡ sizeAt t f → f ≤ g
+  pub fits : Fits t source f
+  pub fewest : (g : ℕ) → Fits t source g → sizeOf (setOf (t .settings) f) ≤ sizeOf (setOf (t .settings) g)
+  pub lowest : (g : ℕ) → Fits t source g → sizeOf (setOf (t .settings) g) ≡ sizeOf (setOf (t .settings) f) → f ≤ g
+
+module _ (t : SatBox) (source f : ℕ) where
+  pub fits-feeds : Fits t source f → canFeed t source f ≡ true
+  fits-feeds x = rw (le-leb 1 f (x .low), le-leb f (t .settings .frontends) (x .high), x .free, x .reaches)
+
+  pub feeds-fits : canFeed t source f ≡ true → Fits t source f
+  feeds-fits e =
+      let a = and-both (isBetween 1 (t .settings .frontends) f) _ e in
+      let b = and-both (leb 1 f) _ (a .0) in
+      let c = and-both (not (isHeld f (t .streams))) _ (a .1) in
+      record { low = leb-true _ _ (b .0); high = leb-true _ _ (b .1); free = not-true _ (c .0); reaches = c .1 }
 
 -- it is so among the `more` frontends from f on, or it is 0 and none of them can feed the stream
 record Chosen (t : SatBox) (source more f g : ℕ) : Type 0 where
@@ -110,41 +128,32 @@ module _ (t : SatBox) (source : ℕ) where
 
   -- THE CHOICE IS THAT ONE, where there is one, and 0 where there is none
   module _ (few : t .settings .frontends ≤ 8) where
-    within : (g : ℕ) → canFeed t source g ≡ true → (1 ≤ g) × (g < 9)
-    within g e =
-        let b = and-both (leb 1 g) _ (and-both (isBetween 1 (t .settings .frontends) g) _ e .0) in
-        (leb-true _ _ (b .0), omega (arith, leb-true g (t .settings .frontends) (b .1)))
-
-    pub choice-is : (choice t source ≡ 0 → ⊥) → IsChoice t source (choice t source)
+    choice-is : (choice t source ≡ 0 → ⊥) → IsChoice t source (choice t source)
     unfolding choice
     choice-is some =
         let r = chosen 8 1 (omega arith) in
         record {
-          feeds = r .can some .0;
-          fewest = λ g e. r .fewest g (within g e .0) (omega (arith, within g e .1)) e;
-          lowest = λ g e. r .lowest g (within g e .0) (omega (arith, within g e .1)) e;
+          fits = feeds-fits t source (fewestFrom t source 8 1) (r .can some .0);
+          fewest = λ g e. r .fewest g (e .low) (omega (arith, e .high)) (fits-feeds t source g e);
+          lowest = λ g e. r .lowest g (e .low) (omega (arith, e .high)) (fits-feeds t source g e);
         }
 
-    pub choice-none : choice t source ≡ 0 → (g : ℕ) → canFeed t source g ≡ false
+    choice-none : choice t source ≡ 0 → (g : ℕ) → Fits t source g → ⊥
     unfolding choice
-    choice-none z g = by (case _)
-      where
-        by : Test (canFeed t source g) → canFeed t source g ≡ false
-        by (is y) = chosen 8 1 (omega arith) .none z g (within g y .0) (omega (arith, within g y .1))
-        by (isnt n) = n
+    choice-none z g e = never (fits-feeds t source g e) (chosen 8 1 (omega arith) .none z g (e .low) (omega (arith, e .high)))
 
 -- THE CHOICE: where a free frontend reaches the src, the one that is chosen is free and reaches it, no other such has a smaller set, and none of
 -- equal size a lower number; where none does, none is chosen
 module _ (t : SatBox) (w : Whole t) (source : ℕ) where
-  pub choice-is-that : (g : ℕ) → canFeed t source g ≡ true → IsChoice t source (choice t source)
-  choice-is-that g e = choice-is t source (frontends-few t w) (λ z. never e (choice-none t source (frontends-few t w) z g))
+  pub choice-is-that : (g : ℕ) → Fits t source g → IsChoice t source (choice t source)
+  choice-is-that g e = choice-is t source (frontends-few t w) (λ z. choice-none t source (frontends-few t w) z g e)
 
-  pub none-is-chosen : ((g : ℕ) → canFeed t source g ≡ false) → choice t source ≡ 0
+  pub none-is-chosen : ((g : ℕ) → Fits t source g → ⊥) → choice t source ≡ 0
   none-is-chosen h = by (sames (choice t source) 0)
     where
       by : Same (choice t source) 0 → choice t source ≡ 0
       by (same z) = z
-      by (other z) = never (choice-is t source (frontends-few t w) z .feeds) (h (choice t source))
+      by (other z) = absurd (h (choice t source) (choice-is t source (frontends-few t w) z .fits))
 
 -- "each stream's frontend reaches its src"
 pub stream-reached : (t : SatBox) → Whole t → (id : ℕ) → (streamOf t id .frontend ≡ 0 → ⊥) → hasSource (setOf (t .settings) (streamOf t id .frontend)) (streamOf t id .values .src) ≡ true
@@ -196,13 +205,12 @@ module _ (t : SatBox) (all : AllReach (t .settings)) (source : ℕ) (low : 1 ≤
   module _ (w : Whole t) where
     pub lowest-free-taken : (g : ℕ) → isFreeFrontend t g ≡ true → (isFreeFrontend t (choice t source) ≡ true) × (choice t source ≤ g)
     lowest-free-taken g e =
-        let c = choice-is-that t w source g (feeds-if-free g ∙ e) in
-        (sym (feeds-if-free (choice t source)) ∙ c .feeds, c .lowest g (feeds-if-free g ∙ e) (ap sizeOf (size g (feeds-if-free g ∙ e) ∙ sym (size (choice t source) (c .feeds)))))
+        let x = feeds-fits t source g (feeds-if-free g ∙ e) in
+        let c = choice-is-that t w source g x in
+        (sym (feeds-if-free (choice t source)) ∙ fits-feeds t source (choice t source) (c .fits), c .lowest g x (ap sizeOf (size x ∙ sym (size (c .fits)))))
       where
-        size : (f : ℕ) → canFeed t source f ≡ true → setOf (t .settings) f ≡ 15
-        size f y =
-            let b = and-both (leb 1 f) _ (and-both (isBetween 1 (t .settings .frontends) f) _ y .0) in
-            all .full f (leb-true _ _ (b .0)) (leb-true _ _ (b .1))
+        size : {f : ℕ} → Fits t source f → setOf (t .settings) f ≡ 15
+        size {f} y = all .full f (y .low) (y .high)
 
 -- STEPS 11 TO 18 WITHOUT A SRC AT 17, as document 01 has them
 unfoldable pub caseWithout : SatBox → Asked → Lists → Case
