@@ -29,7 +29,7 @@ use Rattle.steps.specs.Steps.{isPassed}
 use Rattle.steps.specs.declared.cases.Case.the-variants.{Passed, Full}
 use Rattle.closings.specs.Closing.{bytesOf, Did, isExpired, atClock, sweeping}
 use Rattle.satbox.specs.Calls.{requested, replied}
-use Rattle.promises.proofs.Reaching.{AllReach}
+use Rattle.amended.proofs.Reaching.{AllReach}
 use Rattle.closings.proofs.DoesLaws.{bytes-append}
 use Rattle.closings.proofs.Keeping.{whole-formed}
 use Rattle.lives.specs.Calls.{Lent, Call, request, order, lacksJournal, isCall, Life, live, run, recordsOf, Lives, lifeAfter}
@@ -78,7 +78,7 @@ module _ (settings : Settings) (j : List ℕ) (cs : List Call) where
     pub settings-stay : x .satbox .settings ≡ settings
     settings-stay = after-good h .set
 
-    -- order 1: so a box whose frontends reach all four stays one, and is document 01's in every call (`promises/proofs/Reaching`)
+    -- order 1: so a box whose frontends reach all four stays one, and is document 01's in every call (`amended/proofs/AsBefore`)
     pub all-reach-stays : AllReach settings → AllReach (x .satbox .settings)
     all-reach-stays = subst AllReach (sym settings-stay)
 

@@ -1,6 +1,4 @@
 pub mod Passing
-pub mod Reaching
-pub mod AsBefore
 pub mod Serving
 pub mod Requests
 pub mod Records

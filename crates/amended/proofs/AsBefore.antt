@@ -39,8 +39,8 @@ use Rattle.steps.specs.declared.cases.Case.{Case}
 use Rattle.steps.specs.declared.cases.Case.the-variants.{Passed, Full, Reading}
 use Rattle.serving.specs.Serving.{hasPlace, hasRoom, guest, seatingAs, canJoin, joining, canOpen, opening, sourceOf, feedOf, merging, merges, mergeCase, isOpening, canSeat, caseOf, withSession, seatAfter, Serving, granted, keeping, retuning, grant, denied, served, clientOf, answered}
 use Rattle.serving.specs.declared.opening.Client.{Client}
-use Rattle.promises.proofs.Reaching.{AllReach, full-has, isFreeFrontend, feeds-if-free, lowest-free-taken, new-range, caseWithout, case-without}
+use Rattle.amended.proofs.Reaching.{AllReach, full-has, isFreeFrontend, feeds-if-free, lowest-free-taken, new-range, caseWithout, case-without}
 use Rattle.promises.proofs.Passing.{Changing, through, can-open, new-merged}
 use Rattle.serving.proofs.Branching.{merging-feed, merging-src}
 use Rattle.steps.proofs.ReplyLaws.{unread-passed}
 use Rattle.steps.proofs.Telling.{asked-fit}
