@@ -19,14 +19,15 @@ use Rattle.table.proofs.Changes.{placed-at}
 use Rattle.finding.specs.Finding.{isHeld, canFeed, sizeAt, fewestFrom, choice}
 use Rattle.closings.proofs.Keeping.{Whole, frontends-few}
 use Rattle.steps.specs.Sights.{Asked, Lists, sightOf}
-use Rattle.steps.specs.Steps.{isPassed, looksUp, tableCase}
+use Rattle.steps.specs.Steps.{isPassed, isSetup, isNamed, looksUp, tableCase}
 use Rattle.steps.specs.declared.cases.Case.{Case}
-use Rattle.steps.specs.declared.cases.Case.the-variants.{Passed, Full}
+use Rattle.steps.specs.declared.cases.Case.the-variants.{Passed, NotReached, Full}
 use Rattle.serving.specs.Serving.{sourceOf, merging, merges, mergeCase, isUnreached, isOpening, canSeat, caseOf}
 use Rattle.serving.proofs.Passing.{untested}
 use Rattle.aim.specs.Aim.{methodNumber}
 use Rattle.aim.specs.declared.Method.{Method}
 use Rattle.aim.specs.declared.Method.the-variants.{Options, Setup, Play, Teardown, Other}
+use Rattle.stream.specs.declared.Outcome.the-variants.{Merged}
 use Rattle.stream.specs.Values.{given}
 use Rattle.stream.specs.Streams.{isSound}
 use Rattle.stream.specs.Arrays.{isInRange, isFit, areFit}
@@ -158,6 +159,29 @@ module _ (t : SatBox) (w : Whole t) (source : ℕ) where
 -- "each stream's frontend reaches its src"
 pub stream-reached : (t : SatBox) → Whole t → (id : ℕ) → (streamOf t id .frontend ≡ 0 → ⊥) → hasSource (setOf (t .settings) (streamOf t id .frontend)) (streamOf t id .values .src) ≡ true
 stream-reached t w id live = or-second _ _ (and-both (isSound (t .settings .frontends) (streamOf t id)) _ (placed-at (t .settings) (t .streams) (w .formed .rows) id) .1) (ne-eqb _ 0 live)
+
+-- STEP 17 FOR A SRC, whatever the sets: of an owner's query that steps 11 to 16 and the PIDs of 17 let through, a src that is given is refused exactly
+-- if the frontend held does not reach it
+module _ (t : SatBox) (a : Asked) (l : Lists) (passed : tableCase (sightOf t a) ≡ Passed) (owner : merges (sightOf t a) ≡ true) (named : isNamed (sightOf t a) ≡ true) (some : a .stream ≡ 0 → ⊥) (merged : merging t a l .outcome ≡ Merged) where
+  src-seen : sightOf t a .src ≡ getD (a .codes) 0 0
+  unfolding sightOf
+  src-seen = refl
+
+  reach-seen : sightOf t a .reach ≡ setOf (t .settings) (streamOf t (a .stream) .frontend)
+  unfolding sightOf
+  reach-seen = refl
+
+  pub unreached-is-refused : (getD (a .codes) 0 0 ≡ 0 → ⊥) → hasSource (setOf (t .settings) (streamOf t (a .stream) .frontend)) (getD (a .codes) 0 0) ≡ false → caseOf t a l ≡ NotReached
+  unfolding caseOf
+  unreached-is-refused given n =
+      let u : isUnreached (sightOf t a) ≡ true = rw (src-seen, reach-seen, ne-eqb _ 0 given, n) in
+      rw (passed, merged, u, owner, ne-eqb (a .stream) 0 some)
+
+  pub reached-passes : hasSource (setOf (t .settings) (streamOf t (a .stream) .frontend)) (getD (a .codes) 0 0) ≡ true → caseOf t a l ≡ Passed
+  unfolding caseOf
+  reached-passes y =
+      let u : isUnreached (sightOf t a) ≡ false = rw (src-seen, reach-seen, y, and-false (not (eqb (getD (a .codes) 0 0) 0))) in
+      rw (passed, merged, u, owner, named, ne-eqb (a .stream) 0 some, and-false (isSetup (sightOf t a .method)))
 
 -- AS BEFORE: every set is full
 pub record AllReach (s : Settings) : Type 0 where
