@@ -29,8 +29,9 @@
  * Version a.b as a number: a in the upper sixteen bits, b in the lower. A firmware compares it with satbox_version when it starts.
  * From 1.0 to 1.1: satbox_make takes its settings in one struct, with the sources that each frontend reaches. All of them at SATBOX_REACH_ALL is the box
  * of 1.0, call for call. A box that 1.0 left is none of 1.1: its size is another.
+ * From 1.1 to 1.2: an answer's CSeq has the digits that were sent, leading zeros too. Nothing in this header moved, and a box of 1.1 is one of 1.2.
  */
-#define SATBOX_VERSION 0x00010001u      /* 1.1 */
+#define SATBOX_VERSION 0x00010002u      /* 1.2 */
 
 /* Limits. */
 #define SATBOX_FRONTENDS_MIN 1u         /* F, fixed when the box is made */

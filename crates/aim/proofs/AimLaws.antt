@@ -10,7 +10,7 @@ use lib.ListN.{length, getD, replicate, drop-of-length-le}
 use borrow.Author.Tests.{lt-ltb, le-ltb, ltb-false}
 use Rattle.scan.specs.Lists.{all, part, first, _gives_or_}
 use Rattle.scan.specs.Text.{is, cut}
-use Rattle.scan.specs.Found.{Holds}
+use Rattle.scan.specs.Found.{Holds, nowhere}
 use Rattle.scan.specs.declared.Span.{Span}
 use Rattle.scan.proofs.Bools.{never, by-cases}
 use Rattle.scan.proofs.Parts.{all-same, holds-nothing, holds-length}
@@ -18,7 +18,7 @@ use Rattle.target.specs.Uri.{isUri, hasQuery, queryOf}
 use Rattle.target.specs.Steps.{UriIs}
 use Rattle.target.specs.declared.Uri.{Uri}
 use Rattle.aim.specs.Query.{areParts, textIn, codeFrom, codeIn}
-use Rattle.aim.specs.Found.{isWithin, textOf, nowhere, QueryIs, Reached, refusedAim, verdictOf, isSpan, AimIs, judged, takesNoQuery, lacksStream}
+use Rattle.aim.specs.Found.{isWithin, textOf, QueryIs, Reached, refusedAim, verdictOf, isSpan, AimIs, judged, takesNoQuery, lacksStream}
 use Rattle.refusals.specs.Refusals.{isRead}
 use Rattle.aim.specs.Aim.{hasStream, uriRefusal}
 use Rattle.refusals.specs.declared.Refusal.{Refusal}

@@ -10,7 +10,7 @@ use lib.ListN.{length, drop, getD, set, replicate, length-set, length-drop, drop
 use lib.Seq.{getD-set-same, getD-set-other}
 use borrow.Author.Tests.{ltb-true, lt-ltb, le-ltb, eq-eqb, ne-eqb}
 use Rattle.scan.specs.Lists.{all, part, first}
-use Rattle.scan.specs.Found.{Holds, FirstOf, FirstFrom, cutFrom}
+use Rattle.scan.specs.Found.{Holds, nowhere, FirstOf, FirstFrom, cutFrom}
 use Rattle.scan.specs.Text.{is, cut}
 use Rattle.scan.specs.declared.Span.{Span}
 use Rattle.scan.proofs.Bools.{never, by-test, by-cases}
@@ -20,7 +20,7 @@ use Rattle.digits.specs.Reading.{isValue}
 use Rattle.digits.specs.declared.Read.{Read}
 use Rattle.tuning.specs.Values.{attributeOf, valueOf}
 use Rattle.aim.specs.Query.{attributeIn, areParts, codeFrom, textIn, codeIn}
-use Rattle.aim.specs.Found.{isQuery, areWithin, codeOf, textOf, nowhere, codeAmong, textAmong, isPart, equals, partValue, isNamedBefore, isWithin, startAmong, startOf, PartIs, brokenQuery, QueryIs}
+use Rattle.aim.specs.Found.{isQuery, areWithin, codeOf, textOf, codeAmong, textAmong, isPart, equals, partValue, isNamedBefore, isWithin, startAmong, startOf, PartIs, brokenQuery, QueryIs}
 use Rattle.aim.specs.declared.query.Part.{Part}
 use Rattle.aim.specs.declared.query.Query.{Query}
 use Rattle.tuning.proofs.Words.{value-none}

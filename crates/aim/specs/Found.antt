@@ -6,7 +6,7 @@ use mathlib.Core.Bool.{true, false, Bool, not, cond, _&&_, _||_}
 use mathlib.Core.List.{List, [], _∷_}
 use lib.Dec.{eqb, ltb}
 use lib.ListN.{length, getD, replicate}
-use Rattle.scan.specs.Found.{Holds, placeIn}
+use Rattle.scan.specs.Found.{Holds, nowhere, placeIn}
 use Rattle.aim.specs.declared.query.Part.{Part}
 use Rattle.aim.specs.declared.query.Query.{Query}
 use Rattle.aim.specs.Query.{partsOf, attributeIn, areParts, textIn, codeFrom, codeIn}
@@ -34,9 +34,6 @@ takesNoQuery method = eqb (methodNumber method) 0 || eqb (methodNumber method) 3
 abbrev pub lacksStream : Method → Bool → Bool → Bool
 lacksStream method stream query =
     (eqb (methodNumber method) 2 || eqb (methodNumber method) 3 || (eqb (methodNumber method) 1 && not query)) && not stream
-
-abbrev pub nowhere : Span
-nowhere = record { start = 0; end = 0 }
 
 -- a query's bytes: its form, whether its values are in the table, an attribute's text and code
 abbrev pub isQuery : List ℕ → Bool

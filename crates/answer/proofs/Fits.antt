@@ -8,12 +8,9 @@ use native.Mathlib.Omega.{arith}
 use lib.Dec.{eqb}
 use lib.ListN.{length, length-append}
 use Rattle.scan.specs.Lists.{_gives_or_}
-use Rattle.scan.specs.Text.{text, _&_}
+use Rattle.scan.specs.Text.{text, _&_, isEmpty}
 use Rattle.scan.proofs.Bools.{cond-keeps}
 use Rattle.writing.specs.Writing.{decimal, dotted}
-use Rattle.digits.specs.declared.Read.{Read}
-use Rattle.digits.specs.declared.Read.the-variants.{Value, Nothing}
-use Rattle.digits.proofs.Limits.{Is-read}
 use Rattle.writing.proofs.Numerals.{decimal-length, hex8-length, dotted-length}
 use Rattle.answer.specs.Lines.{reasonOf, line, cseqLine, sessionLine, publicLine, transportLine, refusedLines}
 use Rattle.answer.specs.Answers.{setupLines, playLines, numbered, optionsLines, linesBy, linesOf, answerWith}
@@ -27,7 +24,6 @@ Is-small v = v < 4294967296
 
 pub record Small (a : Answer) : Type 0 where
   pub status : Is-small (a .status)
-  pub cseq : Is-read Is-small (a .cseq)
   pub session : Is-small (a .session)
   pub stream : Is-small (a .stream)
   pub address : Is-small (a .address)
@@ -40,39 +36,46 @@ both-fit x y m n p q = rw length-append (omega arith)
 numbered-fits : (name : List ℕ) (v : ℕ) → Is-small v → length (numbered name v) ≤ length name + 12
 numbered-fits name v h = rw (length-append, length-append) (omega (arith, decimal-length 9 v (omega arith)))
 
-phrase : (b : Bool) (t rest : String) → length (text t) ≤ 30 → length (text rest) ≤ 30 → length (text (b gives t or rest)) ≤ 30
-phrase true t rest h k = h
-phrase false t rest h k = k
+-- what holds of each of two holds of the one that a test gives
+gives-keeps : (P : String → Type 0) (t : Bool) (x y : String) → P x → P y → P (t gives x or y)
+gives-keeps P true x y p q = p
+gives-keeps P false x y p q = q
+
+-- what holds of each reason, and of none, holds of every status's
+pub reason-keeps : (P : String → Type 0) → P "OK" → P "Bad Request" → P "Forbidden" → P "Not Found" → P "Method Not Allowed" → P "Request-URI Too Long" → P "Session Not Found" → P "Method Not Valid in This State" → P "Unsupported Transport" → P "Not Implemented" → P "Service Unavailable" → P "RTSP Version Not Supported" → P "Option Not Supported" → P ""
+    → (status : ℕ) → P (reasonOf status)
+unfolding reasonOf
+reason-keeps P a b c d e f g h i j k l m n status =
+    gives-keeps P (eqb status 200) _ _ a
+    (gives-keeps P (eqb status 400) _ _ b
+    (gives-keeps P (eqb status 403) _ _ c
+    (gives-keeps P (eqb status 404) _ _ d
+    (gives-keeps P (eqb status 405) _ _ e
+    (gives-keeps P (eqb status 414) _ _ f
+    (gives-keeps P (eqb status 454) _ _ g
+    (gives-keeps P (eqb status 455) _ _ h
+    (gives-keeps P (eqb status 461) _ _ i
+    (gives-keeps P (eqb status 501) _ _ j
+    (gives-keeps P (eqb status 503) _ _ k
+    (gives-keeps P (eqb status 505) _ _ l
+    (gives-keeps P (eqb status 551) _ _ m n))))))))))))
 
 reason-fits : (status : ℕ) → length (text (reasonOf status)) ≤ 30
-unfolding reasonOf
-reason-fits status =
-    phrase (eqb status 200) "OK" _ (omega arith)
-    (phrase (eqb status 400) "Bad Request" _ (omega arith)
-    (phrase (eqb status 403) "Forbidden" _ (omega arith)
-    (phrase (eqb status 404) "Not Found" _ (omega arith)
-    (phrase (eqb status 405) "Method Not Allowed" _ (omega arith)
-    (phrase (eqb status 414) "Request-URI Too Long" _ (omega arith)
-    (phrase (eqb status 454) "Session Not Found" _ (omega arith)
-    (phrase (eqb status 455) "Method Not Valid in This State" _ (omega arith)
-    (phrase (eqb status 461) "Unsupported Transport" _ (omega arith)
-    (phrase (eqb status 501) "Not Implemented" _ (omega arith)
-    (phrase (eqb status 503) "Service Unavailable" _ (omega arith)
-    (phrase (eqb status 505) "RTSP Version Not Supported" _ (omega arith)
-    (phrase (eqb status 551) "Option Not Supported" "" (omega arith) (omega arith)))))))))))))
+reason-fits =
+    reason-keeps (λ t. length (text t) ≤ 30) (omega arith) (omega arith) (omega arith) (omega arith) (omega arith) (omega arith) (omega arith)
+    (omega arith) (omega arith) (omega arith) (omega arith) (omega arith) (omega arith) (omega arith)
 
 reason-line-fits : (status : ℕ) → length (line " " (text (reasonOf status))) ≤ 33
 reason-line-fits status = rw (length-append, length-append) (omega (arith, reason-fits status))
 
-cseq-fits : (cseq : Read) → Is-read Is-small cseq → length (cseqLine cseq) ≤ 18
-cseq-fits (Value n) h = numbered-fits (text "CSeq: ") n h
-cseq-fits Nothing h = omega arith
+cseq-fits : (digits : List ℕ) → length digits ≤ 10 → length (cseqLine digits) ≤ 18
+cseq-fits digits h = cond-keeps (λ (l : List ℕ). length l ≤ 18) (isEmpty digits) [] (line "CSeq: " digits) (λ _. omega arith) (λ _. rw (length-append, length-append) (omega arith))
 
 session-fits : (session : ℕ) (end : List ℕ) → length (sessionLine session end) ≡ 17 + length end
 session-fits session end = rw (length-append, length-append) (omega (arith, hex8-length session))
 
 -- the lines of each kind, beside the word that they take from the request
-module _ (word : List ℕ) (a : Answer) (s : Small a) where
+module _ (digits word : List ℕ) (a : Answer) (s : Small a) where
   options-fits : length (optionsLines (a .session)) ≤ 100
   options-fits =
       cond-keeps (λ (l : List ℕ). length l ≤ 100) (eqb (a .session) 0) publicLine _ (λ e. omega arith)
@@ -111,15 +114,15 @@ module _ (word : List ℕ) (a : Answer) (s : Small a) where
   lines-fit Play = omega (arith, play-fits)
   lines-fit Teardown = omega (arith, session-fits (a .session) (text "\r\n"))
 
-  -- AN ANSWER FITS 4,096 BYTES, where the request is within its limit
-  pub answer-fits : length word ≤ 2048 → length (answerWith word a) ≤ 4096
-  answer-fits h =
+  -- AN ANSWER FITS 4,096 BYTES, where the request is within its limit and CSeq has ten digits at most
+  pub answer-fits : length digits ≤ 10 → length word ≤ 2048 → length (answerWith digits word a) ≤ 4096
+  answer-fits k h =
       let lines = linesOf word a & text "\r\n" in
-      let later = cseqLine (a .cseq) & lines in
+      let later = cseqLine digits & lines in
       let reason = line " " (text (reasonOf (a .status))) in
       let n = both-fit (text "RTSP/1.0 ") (decimal (a .status) & reason & later) 9 (10 + (33 + (18 + ((200 + length word) + 2)))) (omega arith)
       (both-fit (decimal (a .status)) (reason & later) 10 (33 + (18 + ((200 + length word) + 2))) (decimal-length 9 (a .status) (omega (arith, s .status)))
       (both-fit reason later 33 (18 + ((200 + length word) + 2)) (reason-line-fits (a .status))
-      (both-fit (cseqLine (a .cseq)) lines 18 ((200 + length word) + 2) (cseq-fits (a .cseq) (s .cseq))
+      (both-fit (cseqLine digits) lines 18 ((200 + length word) + 2) (cseq-fits digits k)
       (both-fit (linesOf word a) (text "\r\n") (200 + length word) 2 (lines-fit (a .kind)) (omega arith))))) in
       omega arith

@@ -1,13 +1,11 @@
 -- An answer as the code hands it over, by its kind: what the crates promise each other. No call of the box reaches these; a law ties them to what
 -- a request is answered with (`steps/proofs/ReplyLaws`). Assumes nothing.
 use Prim.Native.Nat.{ℕ}
-use mathlib.Core.Bool.{cond, _&&_}
+use mathlib.Core.Bool.{cond}
 use mathlib.Core.List.{List, []}
-use lib.Dec.{eqb, leb, ltb}
-use lib.ListN.{length}
+use lib.Dec.{eqb, ltb}
 use Rattle.scan.specs.Text.{text, _&_}
-use Rattle.scan.specs.Lists.{part}
-use Rattle.scan.specs.declared.Span.{Span}
+use Rattle.scan.specs.Found.{textAt}
 use Rattle.writing.specs.Writing.{decimal}
 use Rattle.answer.specs.Lines.{reasonOf, sessionLine, publicLine, refusedLines, answerLines, line, transportLine}
 use Rattle.answer.specs.declared.Kind.{Kind}
@@ -34,11 +32,6 @@ statusWith status reason = text "RTSP/1.0 " & decimal status & line " " reason
 abbrev pub numbered : List ℕ → ℕ → List ℕ
 numbered name v = name & decimal v & text "\r\n"
 
--- what stands at a place of the request; nothing where there is no such place
-unfoldable pub textAt : List ℕ → Span → List ℕ
-textAt request place =
-    cond (leb (place .start) (place .end) && leb (place .end) (length request)) (part (place .start) (place .end) request) []
-
 -- session 0 is none
 abbrev pub optionsLines : ℕ → List ℕ
 optionsLines session = cond (eqb session 0) publicLine (sessionLine session (text "\r\n") & publicLine)
@@ -57,9 +50,10 @@ linesBy Teardown word a = sessionLine (a .session) (text "\r\n")
 abbrev pub linesOf : List ℕ → Answer → List ℕ
 linesOf word a = linesBy (a .kind) word a
 
-abbrev pub answerWith : List ℕ → Answer → List ℕ
-answerWith word a = answerLines (a .status) (a .cseq) (linesOf word a)
+-- with the digits of CSeq in front
+abbrev pub answerWith : List ℕ → List ℕ → Answer → List ℕ
+answerWith digits word a = answerLines (a .status) digits (linesOf word a)
 
--- the same where that word stands at a place of the request
+-- the same where both stand at places of the request
 abbrev pub answerText : List ℕ → Answer → List ℕ
-answerText request a = answerWith (textAt request (a .text)) a
+answerText request a = answerWith (textAt request (a .cseq)) (textAt request (a .text)) a

@@ -1,13 +1,12 @@
 -- Document 01, "Answer text": its lines. Texts are as they are sent; a line ends in CR LF. Assumes nothing.
 use Prim.Native.Nat.{ℕ, _+_, _%_}
 use Prim.Native.String.{String}
+use mathlib.Core.Bool.{cond}
 use mathlib.Core.List.{List, []}
 use lib.Dec.{eqb}
-use Rattle.scan.specs.Text.{text, _&_}
+use Rattle.scan.specs.Text.{text, _&_, isEmpty}
 use Rattle.scan.specs.Lists.{_gives_or_}
 use Rattle.writing.specs.Writing.{decimal, hex8, dotted}
-use Rattle.digits.specs.declared.Read.{Read}
-use Rattle.digits.specs.declared.Read.the-variants.{Value, Nothing}
 
 -- "reason of 3.5.14"
 unfoldable pub reasonOf : ℕ → String
@@ -31,10 +30,9 @@ reasonOf status =
 abbrev pub line : String → List ℕ → List ℕ
 line start rest = text start & rest & text "\r\n"
 
--- "All later answers carry it, without leading zeros", and those before it do not
-abbrev pub cseqLine : Read → List ℕ
-cseqLine (Value n) = line "CSeq: " (decimal n)
-cseqLine Nothing = []
+-- "All later answers carry it", and those of steps 1 and 2 do not; order 2: "every answer that carries CSeq copies those digits"
+abbrev pub cseqLine : List ℕ → List ℕ
+cseqLine digits = cond (isEmpty digits) [] (line "CSeq: " digits)
 
 abbrev pub sessionLine : ℕ → List ℕ → List ℕ
 sessionLine session end = text "Session: " & hex8 session & end
@@ -56,5 +54,5 @@ refusedLines step value =
     []
 
 -- "`RTSP/1.0 `, code, space, reason ..; then `CSeq: n`; then ..; An empty line ends it; no body."
-abbrev pub answerLines : ℕ → Read → List ℕ → List ℕ
+abbrev pub answerLines : ℕ → List ℕ → List ℕ → List ℕ
 answerLines status cseq lines = text "RTSP/1.0 " & decimal status & line " " (text (reasonOf status)) & cseqLine cseq & lines & text "\r\n"

@@ -1,11 +1,11 @@
 // An answer's text, written straight into a lent buffer, line by line: the status line, CSeq, what its kind adds, and the empty line. Every
-// byte is written once, and nothing is copied but a host and a Require value, from where they stand in the request.
+// byte is written once, and nothing is copied but CSeq's digits, a host and a Require value, from where they stand in the request.
 mod puts;
 mod status;
 
 ghost use Rattle.writing.specs.Wrote.{Wrote};
-ghost use Rattle.answer.specs.Answers.{setupLines, playLines, textAt, optionsLines, linesOf, answerText};
-use digits::Read;
+ghost use Rattle.scan.specs.Found.{textAt};
+ghost use Rattle.answer.specs.Answers.{setupLines, playLines, optionsLines, linesOf, answerText};
 use puts::put_allow;
 use puts::put_cseq;
 use puts::put_part;
@@ -31,12 +31,12 @@ pub enum Kind {
     Teardown,
 }
 
-// An answer: its kind says which of its fields are written. `session` is 0 where none is named, and `text` is where the host or the Require
-// value stands in the request.
+// An answer: its kind says which of its fields are written. `session` is 0 where none is named; `cseq` is where in the request CSeq's digits stand,
+// and `text` where the host or the Require value does.
 pub struct Answer {
     pub kind: Kind,
     pub status: u32,
-    pub cseq: Read,
+    pub cseq: Span,
     pub session: u32,
     pub stream: u32,
     pub address: u32,
@@ -95,7 +95,7 @@ pub fn write(buf: &mut [u8], a: Answer, request: &[u8]) -> usize
 {
     let cseq = a.cseq;
     let n = put_status(buf, 0, a.status);
-    let m = put_cseq(buf, n, cseq);
+    let m = put_cseq(buf, n, request, cseq);
     let k = put_lines(buf, m, a, request);
     writing::put(buf, k, b"\r\n")
 }

@@ -4,25 +4,30 @@ ghost use Rattle.writing.specs.Wrote.{Wrote};
 ghost use Rattle.scan.specs.Text.{text, _&_};
 ghost use Rattle.writing.specs.Writing.{decimal, hex8};
 ghost use Rattle.answer.specs.Lines.{line, cseqLine, sessionLine, publicLine, transportLine, refusedLines};
-ghost use Rattle.answer.specs.Answers.{textAt};
-use digits::Read;
+ghost use Rattle.scan.specs.Found.{textAt};
 use scan::Span;
 
-// The CSeq of a request that has one.
-pub(crate) fn put_cseq(buf: &mut [u8], at: usize, cseq: Read) -> usize
-    ensures { λ r. ⌜ Wrote (now (buf .entry)) at (cseqLine cseq) (now (buf .exit)) r ⌝ }
+// The CSeq of a request that has one: its digits are copied from their place.
+pub(crate) fn put_cseq(buf: &mut [u8], at: usize, request: &[u8], place: Span) -> usize
+    ensures { λ r. ⌜ Wrote (now (buf .entry)) at (cseqLine (textAt (now (request .entry)) place)) (now (buf .exit)) r ⌝ }
 {
-    match cseq {
-        Read::Value(v) => put_sequence(buf, at, v),
-        Read::Nothing => writing::put(buf, at, b""),
+    let start = place.start;
+    let end = place.end;
+    if end <= start {
+        return writing::put(buf, at, b"");
     }
+    if request.len() < end {
+        return writing::put(buf, at, b"");
+    }
+    put_sequence(buf, at, &request[start..end])
 }
 
-fn put_sequence(buf: &mut [u8], at: usize, v: u32) -> usize
-    ensures { λ r. ⌜ Wrote (now (buf .entry)) at (line "CSeq: " (decimal v)) (now (buf .exit)) r ⌝ }
+fn put_sequence(buf: &mut [u8], at: usize, digits: &[u8]) -> usize
+    ensures { λ r. ⌜ Wrote (now (buf .entry)) at (line "CSeq: " (now (digits .entry))) (now (buf .exit)) r ⌝ }
 {
     let n = writing::put(buf, at, b"CSeq: ");
-    put_number(buf, n, v)
+    let m = writing::put(buf, n, digits);
+    writing::put(buf, m, b"\r\n")
 }
 
 // A number that ends its line.

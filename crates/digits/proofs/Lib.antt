@@ -1,3 +1,4 @@
 pub mod Spelling
 pub mod Positions
 pub mod Limits
+pub mod Standing

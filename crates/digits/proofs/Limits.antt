@@ -1,12 +1,13 @@
 -- What a number that was read of a text can be. Assumes nothing.
-use mathlib.Core.Bool.{_&&_}
+use mathlib.Core.Path.{_≡_, refl}
+use mathlib.Core.Bool.{true, cond, _&&_}
 use mathlib.Core.List.{List}
 use Prim.Native.Nat.{ℕ, _≤_}
 use lib.Dec.{leb}
 use lib.ListN.{length}
 use borrow.Author.Tests.{leb-true}
-use Rattle.scan.proofs.Bools.{and-both, cond-keeps}
-use Rattle.digits.specs.Reading.{areDigits, spelled, readIn, hasLeadingZero, readNumber, atLeast}
+use Rattle.scan.proofs.Bools.{never, and-both, by-test, cond-keeps}
+use Rattle.digits.specs.Reading.{areDigits, spelled, readIn, isValue, hasLeadingZero, readNumber, atLeast}
 use Rattle.digits.specs.declared.Read.{Read}
 use Rattle.digits.specs.declared.Read.the-variants.{Value, Nothing}
 use Rattle.digits.specs.declared.Zeros.{Zeros}
@@ -20,6 +21,23 @@ Is-read P Nothing = Unit {0}
 pub read-keeps : {P Q : ℕ → Type 0} → ((v : ℕ) → P v → Q v) → (r : Read) → Is-read P r → Is-read Q r
 read-keeps f (Value v) h = f v h
 read-keeps f Nothing h = tt
+
+-- a text of which a number is read: its digits, all of it, are as many and say as much as they may
+pub record AreDigits (base most limit : ℕ) (xs : List ℕ) : Type 0 where
+  pub some : 1 ≤ length xs
+  pub few : length xs ≤ most
+  pub digits : areDigits base xs ≡ true
+  pub small : spelled base xs ≤ limit
+
+pub are-digits : (base most limit : ℕ) (xs : List ℕ) → isValue (readIn base most limit xs) ≡ true → AreDigits base most limit xs
+are-digits base most limit xs =
+    by-test (λ t. isValue (cond t (Value (spelled base xs)) Nothing) ≡ true → AreDigits base most limit xs)
+    (leb 1 (length xs) && (leb (length xs) most && (areDigits base xs && leb (spelled base xs) limit)))
+    (λ e _. let a = and-both (leb 1 (length xs)) _ e in
+    let b = and-both (leb (length xs) most) _ (a .1) in
+    let c = and-both (areDigits base xs) _ (b .1) in
+    record { some = leb-true 1 (length xs) (a .0); few = leb-true (length xs) most (b .0); digits = c .0; small = leb-true (spelled base xs) limit (c .1) })
+    (λ _ e. never e refl)
 
 -- it is at most its limit
 read-most : (base most limit : ℕ) (xs : List ℕ) → Is-read (λ v. v ≤ limit) (readIn base most limit xs)

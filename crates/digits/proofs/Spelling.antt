@@ -36,7 +36,7 @@ rest-over base limit v xs h k =
     let g : v ≤ valueFrom base v (map digitOf xs) = grows base v (map digitOf xs) h in
     simp (lt-leb (valueFrom base v (map digitOf xs)) limit (omega arith), and-false)
 
-digits-below : (base : ℕ) (xs : List ℕ) → 0 < base → areDigits base xs ≡ true → Below base (map digitOf xs)
+pub digits-below : (base : ℕ) (xs : List ℕ) → 0 < base → areDigits base xs ≡ true → Below base (map digitOf xs)
 digits-below base [] h e i = h
 digits-below base (x ∷ xs) h e zero = ltb-true (digitOf x) base (and-both (ltb (digitOf x) base) (areDigits base xs) e .0)
 digits-below base (x ∷ xs) h e (suc i) = digits-below base xs h (and-both (ltb (digitOf x) base) (areDigits base xs) e .1) i

@@ -30,10 +30,19 @@ areDigits base xs = all (λ b. ltb (digitOf b) base) xs
 abbrev pub spelled : ℕ → List ℕ → ℕ
 spelled base xs = valueIn base (map digitOf xs)
 
+-- a number was read
+abbrev pub isValue : Read → Bool
+isValue (Value v) = true
+isValue Nothing = false
+
 -- digits of the base alone, at least one and at most `most`, that say at most `limit`
 abbrev pub readIn : ℕ → ℕ → ℕ → List ℕ → Read
 readIn base most limit xs =
     cond (leb 1 (length xs) && (leb (length xs) most && (areDigits base xs && leb (spelled base xs) limit))) (Value (spelled base xs)) Nothing
+
+-- order 2: "The reader of a number must hand on where its digits stand": the digits as they were sent, none where no number is read
+abbrev pub digitsRead : ℕ → ℕ → ℕ → List ℕ → List ℕ
+digitsRead base most limit xs = cond (isValue (readIn base most limit xs)) xs []
 
 -- a zero before another digit
 abbrev pub hasLeadingZero : List ℕ → Bool
@@ -48,10 +57,6 @@ readNumber Refused most limit xs = cond (hasLeadingZero xs) Nothing (readIn 10 m
 abbrev pub atLeast : ℕ → Read → Read
 atLeast least (Value v) = cond (leb least v) (Value v) Nothing
 atLeast least Nothing = Nothing
-
-abbrev pub isValue : Read → Bool
-isValue (Value v) = true
-isValue Nothing = false
 
 -- "8 hex digits of either case"
 unfoldable pub readHex8 : List ℕ → Read

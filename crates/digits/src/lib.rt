@@ -1,8 +1,10 @@
-// Numbers out of text: decimal and hexadecimal, read within limits. Every function has an answer for all bytes and numbers, looks at each byte at
+// Numbers out of text: decimal and hexadecimal, read within limits, and where their digits stand. Every function has an answer for all bytes and numbers, looks at each byte at
 // most once and stops at the first that settles the answer.
 ghost use mathlib.Core.Path.{_≡_};
 ghost use Prim.Native.Nat.{_+_, _*_, _<_};
 ghost use Rattle.digits.specs.Reading.{digitOf, readIn, hasLeadingZero, readNumber, atLeast, isValue, readHex8};
+ghost use Rattle.digits.specs.Standing.{Stands};
+use scan::Span;
 
 // What was read: a number, or something that is none.
 pub enum Read {
@@ -85,6 +87,25 @@ pub fn number(s: &[u8], zeros: Zeros, most: usize, limit: u32) -> Read
                 number_in(10, s, most, limit)
             }
         }
+    }
+}
+
+// Where in `s` the digits stand of the number that the whole text at a place is, in the base, within the same limits; 0 to 0 where it is none.
+pub fn digits_at(base: u8, s: &[u8], place: Span, most: usize, limit: u32) -> Span
+    ensures { λ r. ⌜ Stands base most limit (now (s .entry)) place r ⌝ }
+{
+    let start = place.start;
+    let end = place.end;
+    if end < start {
+        return Span { start: 0, end: 0 };
+    }
+    if s.len() < end {
+        return Span { start: 0, end: 0 };
+    }
+    if is_value(number_in(base, &s[start..end], most, limit)) {
+        place
+    } else {
+        Span { start: 0, end: 0 }
     }
 }
 

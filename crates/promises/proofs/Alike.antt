@@ -8,7 +8,7 @@ use lib.Dec.{eqb}
 use lib.ListN.{length, getD}
 use lib.Seq.{ext-getD}
 use borrow.Author.Tests.{eqb-false}
-use Rattle.scan.specs.Found.{Holds, Trimmed}
+use Rattle.scan.specs.Found.{Holds, nowhere, Trimmed}
 use Rattle.scan.specs.declared.Span.{Span}
 use Rattle.scan.proofs.Bools.{never, Case, is, isnt, case}
 use Rattle.scan.proofs.Parts.{holds-length}
@@ -23,7 +23,7 @@ use Rattle.target.specs.Steps.{PartsAre, UriIs}
 use Rattle.target.specs.declared.Parts.{Parts}
 use Rattle.target.specs.declared.Uri.{Uri}
 use Rattle.aim.specs.Query.{codeFrom}
-use Rattle.aim.specs.Found.{nowhere, AimIs}
+use Rattle.aim.specs.Found.{AimIs}
 use Rattle.refusals.specs.Refusals.{isRead, readingRule}
 use Rattle.aim.specs.declared.Aim.{Aim}
 use Rattle.aim.specs.declared.Method.{Method as Methods}
@@ -164,7 +164,7 @@ module _ (frontends : ℕ) (s : List ℕ) (x y : Request) (p : RequestIs fronten
       refusals = p .refusal ∙ sym (q .refusal)
 
       cseqs : x .cseq ≡ y .cseq
-      cseqs = p .cseq ∙ sym (q .cseq)
+      cseqs = p .cseq .is ∙ sym (q .cseq .is)
 
       by : Case (isRead (x .refusal)) → x ≡ y
       by (is t) =

@@ -149,7 +149,7 @@ pub record Answers : Type 0 where
       ≡ text "RTSP/1.0 405 Method Not Allowed\r\nCSeq: 2\r\nAllow: OPTIONS\r\n\r\n"
   pub no-session
       : answer (text "PLAY rtsp://10.0.0.5/stream=1 RTSP/1.0\r\nCSeq: 02\r\nSession: 00000002\r\n\r\n")
-      ≡ text "RTSP/1.0 454 Session Not Found\r\nCSeq: 2\r\n\r\n"
+      ≡ text "RTSP/1.0 454 Session Not Found\r\nCSeq: 02\r\n\r\n"
 
 pub answers : Answers
 unfolding meanings

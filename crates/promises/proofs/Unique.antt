@@ -91,6 +91,9 @@ digits-number κs a x y v w = same
 pub digits-hex-number : Unique digits.hex_number.ended digits.hex_number.Reads.Post
 digits-hex-number κs a x y v w = same
 
+pub digits-digits-at : Unique digits.digits_at.ended digits.digits_at.Reads.Post
+digits-digits-at κs a x y v w p q = same (p .is) (q .is)
+
 pub digits-at-least : Unique digits.at_least.ended digits.at_least.Reads.Post
 digits-at-least κs a x y v w = same
 

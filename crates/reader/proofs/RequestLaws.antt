@@ -1,24 +1,23 @@
 -- A request's refusal: which of the tests of steps 1 to 6 applies first, and then its URI's. Assumes nothing.
 use mathlib.Core.Path.{_≡_, refl, ap, _∙_, sym}
 use mathlib.Core.Bool.{Bool, true, false, cond}
-use mathlib.Core.List.{List}
+use mathlib.Core.List.{List, []}
 use Prim.Native.Nat.{ℕ, zero, suc, _+_, _-_, _≤_, _<_, min}
 use native.Mathlib.Omega.{arith}
 use lib.Dec.{ltb, eqb}
 use lib.ListN.{length, getD}
-use borrow.Author.Tests.{lt-ltb, le-ltb, ne-eqb}
-use Rattle.scan.specs.Text.{text, areAlike}
+use borrow.Author.Tests.{lt-ltb, le-ltb, eq-eqb, ne-eqb}
+use Rattle.scan.specs.Text.{text, isEmpty, areAlike}
 use Rattle.scan.specs.Lists.{part, _gives_or_}
-use Rattle.scan.specs.Found.{Holds}
+use Rattle.scan.specs.Found.{Holds, textAt, nowhere}
 use Rattle.scan.specs.declared.Span.{Span}
 use Rattle.scan.specs.declared.Case.the-variants.{Counts}
-use Rattle.scan.proofs.Bools.{never}
-use Rattle.scan.proofs.Parts.{part-length, holds-length, holds-inside}
+use Rattle.scan.proofs.Bools.{never, Case as Test, is, isnt, case}
+use Rattle.scan.proofs.Parts.{part-length, holds-length, holds-nothing, holds-inside, text-held, no-text, some-text}
 use native.Mathlib.Nat.{zero-add}
-use Rattle.digits.specs.Reading.{readNumber, isValue}
-use Rattle.digits.specs.declared.Read.{Read}
-use Rattle.digits.specs.declared.Read.the-variants.{Nothing}
-use Rattle.digits.specs.declared.Zeros.the-variants.{Allowed}
+use Rattle.digits.specs.Reading.{readIn, isValue, digitsRead}
+use Rattle.digits.specs.Standing.{Stands, digitsAt}
+use Rattle.digits.proofs.Limits.{are-digits}
 use Rattle.lines.specs.Lines.{isLaidOut, requestLine, headerLines}
 use Rattle.lines.specs.Headers.{valuesOf}
 use Rattle.lines.specs.Laid.{firstValue, unseen, SeenIs, valueStart, LinesAre}
@@ -28,10 +27,10 @@ use Rattle.target.specs.Line.{isThree, linePart}
 use Rattle.target.specs.Steps.{PartsAre}
 use Rattle.target.specs.declared.Parts.{Parts}
 use Rattle.reader.specs.Fields.{sessionOf, transportOf}
-use Rattle.reader.specs.Heads.{cseqFrom, sessionIn, headText, cseqAt, sessionSeen, areTwice, Begun, Headed, Passing, uriStart, refusedRequest, RequestIs, isOther, isVersion, methodIn, areRepeated}
-use Rattle.aim.specs.Found.{nowhere, AimIs}
+use Rattle.reader.specs.Heads.{CseqSeen, cseqPlace, CseqIs, sessionIn, headText, sessionSeen, areTwice, Begun, Headed, Passing, uriStart, refusedRequest, RequestIs, isOther, isVersion, methodIn, areRepeated}
+use Rattle.aim.specs.Found.{AimIs}
 use Rattle.refusals.specs.Refusals.{isRead, readingRule}
-use Rattle.reader.specs.Request.{cseqOf, methodOf, uriOf, headRefusal, requestRefusal}
+use Rattle.reader.specs.Request.{cseqDigits, cseqLimit, cseqOf, methodOf, uriOf, headRefusal, requestRefusal}
 use Rattle.refusals.specs.declared.Refusal.{Refusal}
 use Rattle.refusals.specs.declared.Refusal.the-variants.{Passed, Layout, CSeq, RequestLine, HeaderTwice, Version, Require, UriLong, UriForm, QueryUntaken, QueryForm, PidsClash, PidsUnstreamed, NoStream}
 use Rattle.refusals.specs.declared.Refusal.the-variants.{Method as OtherMethod, Value as Outside}
@@ -53,12 +52,6 @@ module _ {s : List ℕ} {vs : List (List ℕ)} {seen : Seen} (i : SeenIs s vs se
   pub seen-text : headText s seen ≡ firstValue vs
   seen-text = i .value .is
 
-  pub seen-cseq : cseqAt s seen ≡ cseqFrom vs
-  seen-cseq =
-      rw (i .times, seen-text)
-      (capped (λ k n. cond (eqb k 1) (readNumber Allowed 10 4294967295 (firstValue vs)) Nothing ≡ cond (eqb n 1) (readNumber Allowed 10 4294967295 (firstValue vs)) Nothing) (length vs) refl refl
-      (λ m h. rw (ne-eqb m 1 (λ q. omega arith))))
-
   pub seen-session : sessionSeen s seen ≡ sessionOf vs
   unfolding sessionOf
   seen-session =
@@ -71,10 +64,58 @@ module _ {s : List ℕ} {vs : List (List ℕ)} {seen : Seen} (i : SeenIs s vs se
   pub seen-sent : ltb 0 (seen .times) ≡ ltb 0 (length vs)
   seen-sent = rw (i .times) (capped (λ k n. ltb 0 k ≡ ltb 0 n) (length vs) refl refl (λ m h. rw (lt-ltb 0 m (omega arith))))
 
+-- CSEQ
+-- where there is none
+cseq-none : (s : List ℕ) → cseqOf s ≡ [] → CseqIs s nowhere
+cseq-none s e = record { is = rw e; held = rw e (holds-nothing s) }
+
+-- it is there exactly if its place has a byte
+module _ {s : List ℕ} {c : Span} (i : CseqIs s c) where
+  pub cseq-empty : c .end ≤ c .start → isEmpty (cseqOf s) ≡ true
+  cseq-empty h = no-text (cseqOf s) (omega (arith, holds-length (i .held)))
+
+  pub cseq-some : c .start < c .end → isEmpty (cseqOf s) ≡ false
+  cseq-some h = some-text (cseqOf s) (omega (arith, holds-length (i .held)))
+
+module _ {s : List ℕ} {seen : Seen} (q : CseqSeen s seen) where
+  abbrev sent : List (List ℕ)
+  sent = valuesOf 0 (headerLines s)
+
+  abbrev place : Span
+  place = record { start = seen .start; end = seen .end }
+
+  pub cseq-not-once : (seen .times ≡ 1 → ⊥) → CseqIs s nowhere
+  unfolding cseqOf
+  cseq-not-once n = cseq-none s (rw (q .whole, ne-eqb (length sent) 1 (λ e. n (q .values .times ∙ ap (λ k. min k 2) e))))
+
+  module _ (h : seen .times ≡ 1) where
+    cseq-is : cseqOf s ≡ digitsRead 10 cseqDigits cseqLimit (firstValue sent)
+    unfolding cseqOf
+    cseq-is = rw (q .whole, eq-eqb (length sent) 1 (omega (arith, sym (q .values .times) ∙ h)))
+
+    value-is : textAt s place ≡ firstValue sent
+    value-is = text-held s (firstValue sent) place (q .values .value)
+
+    -- the digits stand where the value stands, if it is a number
+    here : Test (isValue (readIn 10 cseqDigits cseqLimit (firstValue sent))) → digitsAt 10 cseqDigits cseqLimit s place ≡ cseqPlace s
+    here (is y) =
+        let v = firstValue sent in
+        let e : cseqOf s ≡ v = cseq-is ∙ rw y in
+        let n : isEmpty v ≡ false = some-text v (are-digits 10 cseqDigits cseqLimit v y .some) in
+        rw (value-is, y, e, n, ← q .starts, ← holds-length (q .values .value))
+    here (isnt n) = let e : cseqOf s ≡ [] = cseq-is ∙ rw n in rw (value-is, n, e)
+
+    pub cseq-once : {r : Span} → Stands 10 cseqDigits cseqLimit s place r → CseqIs s r
+    cseq-once {r} w =
+        record {
+          is = w .is ∙ here (case (isValue (readIn 10 cseqDigits cseqLimit (firstValue sent))));
+          held = rw (cseq-is, ← value-is) (w .holds);
+        }
+
 -- REFUSED REQUESTS
-pub request-refused : {frontends : ℕ} {s : List ℕ} {r : Request} {x : Refusal} {c : Read} {v : Span} → isRead x ≡ false
+pub request-refused : {frontends : ℕ} {s : List ℕ} {r : Request} {x : Refusal} {c v : Span} → isRead x ≡ false
     → (headRefusal s ≡ Require → Holds s (firstValue (valuesOf 3 (headerLines s))) (v .start) (v .end) × (v .start ≡ valueStart 3 s))
-    → ((headRefusal s ≡ Require → ⊥) → v ≡ nowhere) → x ≡ requestRefusal frontends s → c ≡ cseqOf s
+    → ((headRefusal s ≡ Require → ⊥) → v ≡ nowhere) → x ≡ requestRefusal frontends s → CseqIs s c
     → r ≡ refusedRequest x c v → RequestIs frontends s r
 request-refused {x = x} n k u e d q =
     let no-pass : x ≡ Passed → ⊥ = λ y. let z : true ≡ false = ap isRead (sym y) ∙ n in let w : _≡_ {A = ℕ} 0 1 = cc in omega arith in
@@ -100,30 +141,29 @@ request-refused {x = x} n k u e d q =
     })
 
 -- by one of steps 1 to 6, and not by the fifth, which also hands out a value
-pub head-refused : {frontends : ℕ} {s : List ℕ} {r : Request} {x : Refusal} {c : Read} → headRefusal s ≡ x → isRead x ≡ false → (readingRule x .0 ≡ 5 → ⊥) → c ≡ cseqOf s
+pub head-refused : {frontends : ℕ} {s : List ℕ} {r : Request} {x : Refusal} {c : Span} → headRefusal s ≡ x → isRead x ≡ false → (readingRule x .0 ≡ 5 → ⊥) → CseqIs s c
     → r ≡ refusedRequest x c nowhere → RequestIs frontends s r
 unfolding requestRefusal
 head-refused h n k d q = request-refused n (λ z. absurd (k (ap (λ r. readingRule r .0) (sym h ∙ z)))) (λ _. refl) (rw (h, n)) d q
 
 module _ (s : List ℕ) {l : Lines} (i : LinesAre s l) where
-  pub request-broken : l .sound ≡ false → (headRefusal s ≡ Layout) × (Nothing ≡ cseqOf s)
+  pub request-broken : l .sound ≡ false → (headRefusal s ≡ Layout) × CseqIs s nowhere
   unfolding headRefusal cseqOf
-  request-broken n = let b : isLaidOut s ≡ false = sym (i .sound) ∙ n in (rw b, rw b)
+  request-broken n = let b : isLaidOut s ≡ false = sym (i .sound) ∙ n in (rw b, cseq-none s (rw b))
 
   module _ (y : l .sound ≡ true) where
     laid : isLaidOut s ≡ true
     laid = sym (i .sound) ∙ y
 
-    pub cseq-read : {c : Read} → c ≡ cseqAt s (getD (l .headers) 0 unseen) → c ≡ cseqOf s
-    unfolding cseqOf
-    cseq-read e = e ∙ seen-cseq (i .headers y 0 (omega arith)) ∙ rw laid
+    pub cseq-seen : CseqSeen s (getD (l .headers) 0 unseen)
+    cseq-seen = record { whole = laid; values = i .headers y 0 (omega arith); starts = i .starts y 0 (omega arith) }
 
-    pub request-uncounted : {c : Read} → c ≡ cseqOf s → isValue c ≡ false → headRefusal s ≡ CSeq
+    pub request-uncounted : isEmpty (cseqOf s) ≡ true → headRefusal s ≡ CSeq
     unfolding headRefusal
-    request-uncounted e n = rw (laid, ap isValue (sym e) ∙ n)
+    request-uncounted n = rw (laid, n)
 
 -- WHAT A REQUEST ASKS
-pub request-passed : {frontends : ℕ} {s : List ℕ} {l : Lines} {c : Read} {m : Method} {from : ℕ} {a : Aim} {x : Session} {y : Transport} {v : Span} → Passing frontends s l c m from a
+pub request-passed : {frontends : ℕ} {s : List ℕ} {l : Lines} {c : Span} {m : Method} {from : ℕ} {a : Aim} {x : Session} {y : Transport} {v : Span} → Passing frontends s l c m from a
     → x ≡ sessionSeen s (getD (l .headers) 1 unseen) → y ≡ transportOf (headText s (getD (l .headers) 2 unseen)) → v ≡ nowhere
     → RequestIs frontends s (record {
       codes = a .codes;
@@ -182,7 +222,7 @@ passed-is PidsUnstreamed e = never refl (sym e)
 passed-is Outside e = never refl (sym e)
 passed-is NoStream e = never refl (sym e)
 
-module _ (frontends : ℕ) (s : List ℕ) {l : Lines} {c : Read} {p : Parts} (h : Headed s l c p) where
+module _ (frontends : ℕ) (s : List ℕ) {l : Lines} {c : Span} {p : Parts} (h : Headed s l c p) where
   line-is : requestLine s ≡ part 0 (l .line) s
   line-is = sym (h .begun .lines .line (h .begun .whole) .is)
 
@@ -258,7 +298,7 @@ module _ (frontends : ℕ) (s : List ℕ) {l : Lines} {c : Read} {p : Parts} (h 
         }
 
 -- FROM THE LINES ON
-module _ (s : List ℕ) {l : Lines} {c : Read} (b : Begun s l c) where
+module _ (s : List ℕ) {l : Lines} {c : Span} (b : Begun s l c) where
   seen-of : (k : ℕ) → k < 5 → SeenIs s (valuesOf k (headerLines s)) (getD (l .headers) k unseen)
   seen-of = b .lines .headers (b .whole)
 

@@ -7,12 +7,10 @@ use mathlib.Core.List.{List, [], _∷_}
 use lib.Dec.{ltb, eqb}
 use lib.ListN.{length, getD, replicate}
 use Rattle.scan.specs.Lists.{part, first}
-use Rattle.scan.specs.Found.{Holds}
-use Rattle.digits.specs.Reading.{readNumber, isValue, readHex8}
-use Rattle.digits.specs.declared.Read.{Read}
-use Rattle.digits.specs.declared.Read.the-variants.{Value as Number, Nothing}
-use Rattle.digits.specs.declared.Zeros.the-variants.{Allowed}
-use Rattle.lines.specs.Lines.{headerLines, requestLine}
+use Rattle.scan.specs.Found.{Holds, nowhere}
+use Rattle.digits.specs.Reading.{readHex8}
+use Rattle.digits.specs.declared.Read.the-variants.{Value as Number}
+use Rattle.lines.specs.Lines.{isLaidOut, headerLines, requestLine}
 use Rattle.lines.specs.Headers.{valuesOf}
 use Rattle.lines.specs.Laid.{firstValue, unseen, SeenIs, LinesAre, valueStart}
 use Rattle.lines.specs.declared.Seen.{Seen}
@@ -21,7 +19,7 @@ use Rattle.target.specs.Steps.{PartsAre}
 use Rattle.target.specs.declared.Parts.{Parts}
 use Rattle.reader.specs.Fields.{sessionFrom, sessionOf, transportOf}
 use Rattle.target.specs.Uri.{streamNamed, hostOf, queryOf}
-use Rattle.aim.specs.Found.{nowhere, queryStart, startIn}
+use Rattle.aim.specs.Found.{queryStart, startIn}
 use Rattle.refusals.specs.Refusals.{isRead}
 use Rattle.reader.specs.Request.{cseqOf, isTwice, methodOf, uriOf, requestRefusal, headRefusal}
 use Rattle.aim.specs.Aim.{methodNumber}
@@ -37,7 +35,7 @@ use Rattle.refusals.specs.declared.Refusal.the-variants.{Passed, Require}
 use Rattle.aim.specs.declared.Method.the-variants.{Other, Options, Setup, Play, Teardown}
 use Rattle.reader.specs.declared.fields.Transport.the-variants.{Other as NoTransport}
 use Rattle.reader.specs.declared.Request.{Request}
-use Rattle.scan.specs.Text.{is, before, text, areAlike, placeAmong}
+use Rattle.scan.specs.Text.{is, before, text, isEmpty, areAlike, placeAmong}
 use Rattle.scan.specs.declared.Case.the-variants.{Counts}
 
 -- where the URI starts: behind the method and a space
@@ -69,11 +67,19 @@ isVersion s = areAlike Counts (linePart 2 (requestLine s)) (text "RTSP/1.0")
 abbrev pub headText : List ℕ → Seen → List ℕ
 headText s seen = part (seen .start) (seen .end) s
 
-abbrev pub cseqFrom : List (List ℕ) → Read
-cseqFrom vs = cond (eqb (length vs) 1) (readNumber Allowed 10 4294967295 (firstValue vs)) Nothing
+-- what was seen of a whole layout's CSeq headers
+pub record CseqSeen (s : List ℕ) (seen : Seen) : Type 0 where
+  pub whole : isLaidOut s ≡ true
+  pub values : SeenIs s (valuesOf 0 (headerLines s)) seen
+  pub starts : seen .start ≡ valueStart 0 s
 
-abbrev pub cseqAt : List ℕ → Seen → Read
-cseqAt s seen = cond (eqb (seen .times) 1) (readNumber Allowed 10 4294967295 (headText s seen)) Nothing
+-- order 2: where the digits of its CSeq stand in the request's bytes; nowhere, if it has none
+abbrev pub cseqPlace : List ℕ → Span
+cseqPlace s = cond (isEmpty (cseqOf s)) nowhere (record { start = valueStart 0 s; end = valueStart 0 s + length (cseqOf s) })
+
+pub record CseqIs (s : List ℕ) (r : Span) : Type 0 where
+  pub is : r ≡ cseqPlace s
+  pub held : Holds s (cseqOf s) (r .start) (r .end)
 
 abbrev pub sessionSeen : List ℕ → Seen → Session
 sessionSeen s seen = cond (eqb (seen .times) 0) Absent (sessionIn (headText s seen))
@@ -88,14 +94,14 @@ abbrev pub areRepeated : List ℕ → Bool
 areRepeated s = isTwice 1 s || isTwice 2 s || isTwice 3 s || isTwice 4 s
 
 -- a request whose layout is whole and whose CSeq was read: past steps 1 and 2
-pub record Begun (s : List ℕ) (l : Lines) (cseq : Read) : Type 0 where
+pub record Begun (s : List ℕ) (l : Lines) (cseq : Span) : Type 0 where
   pub lines : LinesAre s l
   pub whole : l .sound ≡ true
-  pub cseq-is : cseq ≡ cseqOf s
-  pub some : isValue (cseqOf s) ≡ true
+  pub cseq-is : CseqIs s cseq
+  pub some : isEmpty (cseqOf s) ≡ false
 
 -- and whose request line has three parts and the right version, with no header twice and none required: past steps 3 to 5
-pub record Headed (s : List ℕ) (l : Lines) (cseq : Read) (parts : Parts) : Type 0 where
+pub record Headed (s : List ℕ) (l : Lines) (cseq : Span) (parts : Parts) : Type 0 where
   pub begun : Begun s l cseq
   pub parts-are : PartsAre (part 0 (l .line) s) parts
   pub three : parts .sound ≡ true
@@ -107,10 +113,10 @@ pub record Headed (s : List ℕ) (l : Lines) (cseq : Read) (parts : Parts) : Typ
   pub second-in : parts .second ≤ l .line
 
 -- and that nothing refuses: what it asks
-pub record Passing (frontends : ℕ) (s : List ℕ) (l : Lines) (cseq : Read) (method : Method) (from : ℕ) (a : Aim) : Type 0 where
+pub record Passing (frontends : ℕ) (s : List ℕ) (l : Lines) (cseq : Span) (method : Method) (from : ℕ) (a : Aim) : Type 0 where
   pub refusal : a .refusal ≡ requestRefusal frontends s
   pub pass : isRead (a .refusal) ≡ true
-  pub cseq-is : cseq ≡ cseqOf s
+  pub cseq-is : CseqIs s cseq
   pub method-is : method ≡ methodOf s
   pub stream : Number (a .stream) ≡ streamNamed (uriOf s)
   pub host : Holds s (hostOf (uriOf s)) (from + a .host .start) (from + a .host .end)
@@ -124,8 +130,8 @@ pub record Passing (frontends : ℕ) (s : List ℕ) (l : Lines) (cseq : Read) (m
   pub session : SeenIs s (valuesOf 1 (headerLines s)) (getD (l .headers) 1 unseen)
   pub transport : SeenIs s (valuesOf 2 (headerLines s)) (getD (l .headers) 2 unseen)
 
--- what is given of a refused request: why, its CSeq, and for a Require header where its value stands
-abbrev pub refusedRequest : Refusal → Read → Span → Request
+-- what is given of a refused request: why, and where its CSeq stands and the value of a Require header
+abbrev pub refusedRequest : Refusal → Span → Span → Request
 refusedRequest refusal cseq require =
     record {
       codes = replicate 13 0;
@@ -144,7 +150,7 @@ refusedRequest refusal cseq require =
 -- the first of steps 1 to 10 that refuses, or what the request asks and where that stands
 pub record RequestIs (frontends : ℕ) (s : List ℕ) (r : Request) : Type 0 where
   pub refusal : r .refusal ≡ requestRefusal frontends s
-  pub cseq : r .cseq ≡ cseqOf s
+  pub cseq : CseqIs s (r .cseq)
   pub require : headRefusal s ≡ Require → Holds s (firstValue (valuesOf 3 (headerLines s))) (r .require .start) (r .require .end)
   pub unrequired : (headRefusal s ≡ Require → ⊥) → r .require ≡ nowhere
   pub method : r .refusal ≡ Passed → r .method ≡ methodOf s

@@ -4,12 +4,9 @@ use mathlib.Core.Bool.{Bool, not, cond, _||_}
 use mathlib.Core.List.{List, [], _∷_}
 use lib.Dec.{ltb, eqb}
 use lib.ListN.{length, getD}
-use Rattle.scan.specs.Text.{text, areAlike, placeAmong}
+use Rattle.scan.specs.Text.{text, isEmpty, areAlike, placeAmong}
 use Rattle.scan.specs.declared.Case.the-variants.{Counts}
-use Rattle.digits.specs.Reading.{readNumber, isValue}
-use Rattle.digits.specs.declared.Read.{Read}
-use Rattle.digits.specs.declared.Read.the-variants.{Nothing}
-use Rattle.digits.specs.declared.Zeros.the-variants.{Allowed}
+use Rattle.digits.specs.Reading.{digitsRead}
 use Rattle.lines.specs.Lines.{isLaidOut, requestLine, headerLines}
 use Rattle.lines.specs.Headers.{valuesOf}
 use Rattle.target.specs.Line.{isThree, linePart}
@@ -22,11 +19,18 @@ use Rattle.aim.specs.declared.Method.the-variants.{Options, Setup, Play, Teardo
 use Rattle.aim.specs.Aim.{uriRefusal, methodNumber}
 use Rattle.scan.specs.Lists.{_gives_or_}
 
--- step 2: "exactly one CSeq of 1 to 10 digits up to 4294967295", in a whole layout
-unfoldable pub cseqOf : List ℕ → Read
+-- step 2: "1 to 10 digits up to 4294967295"
+abbrev pub cseqDigits : ℕ
+cseqDigits = 10
+
+abbrev pub cseqLimit : ℕ
+cseqLimit = 4294967295
+
+-- "exactly one CSeq", in a whole layout; order 2: its digits as they were sent, none where it has no such CSeq
+unfoldable pub cseqOf : List ℕ → List ℕ
 cseqOf s =
     let vs = valuesOf 0 (headerLines s) in
-    cond (isLaidOut s) (cond (eqb (length vs) 1) (readNumber Allowed 10 4294967295 (getD vs 0 [])) Nothing) Nothing
+    cond (isLaidOut s) (cond (eqb (length vs) 1) (digitsRead 10 cseqDigits cseqLimit (getD vs 0 [])) []) []
 
 -- a method by its word; "case counts"
 unfoldable pub methodOf : List ℕ → Method
@@ -41,7 +45,7 @@ isTwice k s = ltb 1 (length (valuesOf k (headerLines s)))
 unfoldable pub headRefusal : List ℕ → Refusal
 headRefusal s =
     not (isLaidOut s) gives Layout or
-    not (isValue (cseqOf s)) gives CSeq or
+    isEmpty (cseqOf s) gives CSeq or
     not (isThree (requestLine s)) gives RequestLine or
     -- "another known header twice": Session 1, Transport 2, Require 3, Accept 4
     (isTwice 1 s || isTwice 2 s || isTwice 3 s || isTwice 4 s) gives HeaderTwice or

@@ -5,7 +5,7 @@ use mathlib.Core.List.{List, []}
 use lib.ListN.{length, replicate}
 use Rattle.scan.specs.Text.{text, _&_, placeAmong}
 use Rattle.digits.specs.Reading.{readNumber, readHex8}
-use Rattle.digits.specs.declared.Read.the-variants.{Value as Number, Nothing}
+use Rattle.digits.specs.declared.Read.the-variants.{Value as Number}
 use Rattle.lines.specs.Lines.{isLaidOut, requestLine, headerLines}
 use Rattle.lines.specs.Headers.{valuesOf}
 use Rattle.lines.specs.Laid.{firstValue}
@@ -33,7 +33,7 @@ transport s = transportOf (firstValue (valuesOf 2 (headerLines s)))
 abbrev setup : List ℕ
 setup = text "SETUP rtsp://192.168.128.5/?src=1&fe=1&freq=12402&pol=v&msys=dvbs&sr=27500&fec=34&pids=0,16,50,104,166,1707 RTSP/1.0\r\nCSeq: 1\r\nTransport: RTP/AVP;unicast;client_port=1400-1401\r\n\r\n"
 
-pub setup-read : (requestRefusal 2 setup ≡ Passed) × (cseqOf setup ≡ Number 1) × (session setup ≡ Absent) × (transport setup ≡ Port 1400) × (codeIn 2 2 (partsOf (uriOf setup)) ≡ 1240200) × (codeIn 2 3 (partsOf (uriOf setup)) ≡ 2) × (codeIn 2 9 (partsOf (uriOf setup)) ≡ 3) × (textIn 10 (partsOf (uriOf setup)) ≡ text "0,16,50,104,166,1707") × (codeIn 2 5 (partsOf (uriOf setup)) ≡ 0)
+pub setup-read : (requestRefusal 2 setup ≡ Passed) × (cseqOf setup ≡ text "1") × (session setup ≡ Absent) × (transport setup ≡ Port 1400) × (codeIn 2 2 (partsOf (uriOf setup)) ≡ 1240200) × (codeIn 2 3 (partsOf (uriOf setup)) ≡ 2) × (codeIn 2 9 (partsOf (uriOf setup)) ≡ 3) × (textIn 10 (partsOf (uriOf setup)) ≡ text "0,16,50,104,166,1707") × (codeIn 2 5 (partsOf (uriOf setup)) ≡ 0)
 unfolding requestRefusal headRefusal cseqOf isLaidOut requestLine headerLines methodOf uriRefusal isUri streamOfPath attributeIn attributeOf valueOf frequency arePids placeAmong readNumber readHex8 codeIn textIn sessionOf transportOf
 setup-read = (refl, refl, refl, refl, refl, refl, refl, refl, refl)
 
@@ -57,7 +57,7 @@ play-read = (refl, refl, refl, refl)
 abbrev replay : List ℕ
 replay = text "PLAY rtsp://192.168.178.57:554/stream=5?src=1&fe=1&freq=12603&pol=h&ro=0.35&msys=dvbs&mtype=qpsk&plts=off&sr=22000&fec=56&pids=0,1290,2290,6290,7290 RTSP/1.0\r\nCSeq:8\r\nSession:21a15c02c1ee244\r\nConnection:close\r\n\r\n"
 
-pub replay-read : (requestRefusal 8 replay ≡ Passed) × (session replay ≡ Malformed) × (cseqOf replay ≡ Number 8) × (codeIn 8 7 (partsOf (uriOf replay)) ≡ 1) × (codeIn 8 6 (partsOf (uriOf replay)) ≡ 2)
+pub replay-read : (requestRefusal 8 replay ≡ Passed) × (session replay ≡ Malformed) × (cseqOf replay ≡ text "8") × (codeIn 8 7 (partsOf (uriOf replay)) ≡ 1) × (codeIn 8 6 (partsOf (uriOf replay)) ≡ 2)
 unfolding requestRefusal headRefusal cseqOf isLaidOut requestLine headerLines methodOf uriRefusal isUri streamOfPath attributeIn attributeOf valueOf frequency arePids placeAmong readNumber readHex8 codeIn textIn sessionOf transportOf
 replay-read = (refl, refl, refl, refl, refl)
 
@@ -102,9 +102,17 @@ unfolding requestRefusal headRefusal cseqOf isLaidOut requestLine headerLines me
 others-read = (refl, refl, refl, refl)
 
 -- P1: "empty request: 400, no CSeq"
-pub p1 : (requestRefusal 2 [] ≡ Layout) × (cseqOf [] ≡ Nothing)
+pub p1 : (requestRefusal 2 [] ≡ Layout) × (cseqOf [] ≡ [])
 unfolding requestRefusal headRefusal cseqOf isLaidOut requestLine headerLines methodOf uriRefusal isUri streamOfPath attributeIn attributeOf valueOf frequency arePids placeAmong readNumber readHex8 codeIn textIn sessionOf transportOf
 p1 = (refl, refl)
+
+-- order 2: the digits as they were sent, without the outer spaces of the value; ten at most, up to 4294967295
+abbrev counted : List ℕ → List ℕ
+counted value = text "OPTIONS rtsp://h/ RTSP/1.0\r\ncseq:" & value & text "\r\n\r\n"
+
+pub cseq-read : (cseqOf (counted (text "   0007  ")) ≡ text "0007") × (cseqOf (counted (text "0000000007")) ≡ text "0000000007") × (cseqOf (counted (text "00000000007")) ≡ []) × (cseqOf (counted (text "4294967295")) ≡ text "4294967295") × (cseqOf (counted (text "4294967296")) ≡ []) × (cseqOf (counted (text "0 7")) ≡ []) × (cseqOf (counted []) ≡ [])
+unfolding cseqOf isLaidOut headerLines placeAmong
+cseq-read = (refl, refl, refl, refl, refl, refl, refl)
 
 -- a SETUP with one query
 abbrev asking : List ℕ → List ℕ

@@ -8,11 +8,9 @@ pub use fields::Transport;
 ghost use mathlib.Core.Path.{_≡_};
 ghost use Prim.Native.Nat.{_≤_};
 ghost use lib.ListN.{length};
-ghost use Rattle.reader.specs.Heads.{cseqAt, sessionSeen, areTwice, Begun, Headed, Passing, refusedRequest, RequestIs, isOther, methodIn};
+ghost use Rattle.reader.specs.Heads.{CseqSeen, CseqIs, sessionSeen, areTwice, Begun, Headed, Passing, refusedRequest, RequestIs, isOther, methodIn};
 use aim::Aim;
 use aim::Method;
-use digits::Read;
-use digits::Zeros;
 use lines::Lines;
 use lines::Seen;
 use refusals::Refusal;
@@ -20,12 +18,13 @@ use scan::Case;
 use scan::Span;
 use target::Parts;
 
-// A request, as it was read: why it is refused, or what it asks. Spans of attributes count from the start of the query's.
+// A request, as it was read: why it is refused, or what it asks. `cseq` is where the digits of its CSeq stand, 0 to 0 where it has none. Spans of
+// attributes count from the start of the query's.
 pub struct Request {
     pub codes: [u32; 13],
     pub spans: [Span; 13],
     pub refusal: Refusal,
-    pub cseq: Read,
+    pub cseq: Span,
     pub method: Method,
     pub stream: u32,
     pub host: Span,
@@ -35,7 +34,7 @@ pub struct Request {
     pub transport: Transport,
 }
 
-fn refuse(refusal: Refusal, cseq: Read, require: Span) -> Request
+fn refuse(refusal: Refusal, cseq: Span, require: Span) -> Request
     ensures { λ r. ⌜ r ≡ refusedRequest refusal cseq require ⌝ }
 {
     Request {
@@ -53,17 +52,19 @@ fn refuse(refusal: Refusal, cseq: Read, require: Span) -> Request
     }
 }
 
-// The number of a CSeq header that was sent once.
-fn cseq_in(s: &[u8], seen: Seen) -> Read
-    requires { ⌜ (seen .start ≤ seen .end) × (seen .end ≤ length (now s)) ⌝ }
-    ensures { λ r. ⌜ r ≡ cseqAt (now (s .entry)) seen ⌝ }
+// Where the digits of a CSeq header stand that was sent once.
+fn cseq_in(s: &[u8], seen: Seen) -> Span
+    requires { ⌜ CseqSeen (now s) seen ⌝ }
+    ensures { λ r. ⌜ CseqIs (now (s .entry)) r ⌝ }
 {
     if seen.times != 1 {
-        return Read::Nothing;
+        return Span { start: 0, end: 0 };
     }
-    let start = seen.start;
-    let end = seen.end;
-    digits::number(&s[start..end], Zeros::Allowed, 10, 4294967295)
+    let value = Span {
+        start: seen.start,
+        end: seen.end,
+    };
+    digits::digits_at(10, s, value, 10, 4294967295)
 }
 
 fn session_at(s: &[u8], seen: Seen) -> Session
@@ -122,7 +123,7 @@ fn is_other(method: Method) -> bool
 fn passed(
     s: &[u8],
     l: Lines,
-    cseq: Read,
+    cseq: Span,
     method: Method,
     from: usize,
     a: Aim,
@@ -164,7 +165,7 @@ fn passed(
 }
 
 // Steps 6 to 10.
-fn read_method(s: &[u8], l: Lines, cseq: Read, parts: Parts, frontends: u8) -> Request
+fn read_method(s: &[u8], l: Lines, cseq: Span, parts: Parts, frontends: u8) -> Request
     requires { ⌜ Headed (now s) l cseq parts ⌝ }
     ensures { λ r. ⌜ RequestIs frontends (now (s .entry)) r ⌝ }
 {
@@ -186,7 +187,7 @@ fn read_method(s: &[u8], l: Lines, cseq: Read, parts: Parts, frontends: u8) -> R
 }
 
 // Steps 3 to 10.
-fn read_line(s: &[u8], l: Lines, cseq: Read, frontends: u8) -> Request
+fn read_line(s: &[u8], l: Lines, cseq: Span, frontends: u8) -> Request
     requires { ⌜ Begun (now s) l cseq ⌝ }
     ensures { λ r. ⌜ RequestIs frontends (now (s .entry)) r ⌝ }
 {
@@ -221,11 +222,15 @@ pub fn read(s: &[u8], frontends: u8) -> Request
 {
     let l = lines::read_lines(s);
     if !l.sound {
-        return refuse(Refusal::Layout, Read::Nothing, Span { start: 0, end: 0 });
+        return refuse(
+            Refusal::Layout,
+            Span { start: 0, end: 0 },
+            Span { start: 0, end: 0 },
+        );
     }
     let headers = l.headers;
     let cseq = cseq_in(s, headers[0]);
-    if !digits::is_value(cseq) {
+    if cseq.end <= cseq.start {
         return refuse(Refusal::CSeq, cseq, Span { start: 0, end: 0 });
     }
     read_line(s, l, cseq, frontends)

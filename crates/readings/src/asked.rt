@@ -89,7 +89,7 @@ fn passed(s: &[u8], r: Request) {
     query(s, r);
 }
 
-fn verdict(r: Request) {
+fn verdict(s: &[u8], r: Request) {
     let refusal = r.refusal;
     let cseq = r.cseq;
     out::text(b" step ");
@@ -97,7 +97,7 @@ fn verdict(r: Request) {
     out::text(b" status ");
     out::number(refusals::status(refusal) as u32);
     out::text(b" cseq ");
-    out::read(cseq);
+    out::digits(s, cseq);
 }
 
 fn required(s: &[u8], r: Request) {
@@ -110,7 +110,7 @@ fn required(s: &[u8], r: Request) {
 pub(crate) fn request(s: &[u8]) {
     let r = reader::read(s, 2);
     let refusal = r.refusal;
-    verdict(r);
+    verdict(s, r);
     match refusals::step(refusal) {
         0 => passed(s, r),
         5 => required(s, r),

@@ -1,5 +1,4 @@
 // What the readings write to standard output.
-use digits::Read;
 use scan::Span;
 
 pub(crate) fn text(s: &[u8]) {
@@ -20,10 +19,15 @@ pub(crate) fn hex(v: u32) {
     text(&digits);
 }
 
-pub(crate) fn read(r: Read) {
-    match r {
-        Read::Value(v) => number(v),
-        Read::Nothing => text(b"-"),
+// The digits at a place of a text; a hyphen where there are none.
+pub(crate) fn digits(s: &[u8], place: Span) {
+    let a = place.start;
+    let e = place.end;
+    if e <= a {
+        return text(b"-");
+    }
+    if e <= s.len() {
+        text(&s[a..e]);
     }
 }
 

@@ -1,6 +1,6 @@
 -- Parts of a list: their length, a part of a part, and what a span of a part holds in the whole. Assumes nothing.
 use mathlib.Core.Path.{_≡_, refl, ap, _∙_, sym}
-use mathlib.Core.Bool.{true, false, cond, not, _&&_}
+use mathlib.Core.Bool.{true, false, cond, not, _&&_, and-false}
 use mathlib.Core.List.{List, [], _∷_, _++_}
 use Prim.Native.Nat.{ℕ, zero, suc, _+_, _-_, _≤_, _<_}
 use native.Mathlib.Nat.{suc-sub-suc, sub-zero, zero-sub}
@@ -8,12 +8,13 @@ use native.Mathlib.Omega.{arith}
 use lib.ListN.{length, getD, take, drop, replicate, length-take, length-drop}
 use lib.Seq.{take-take, drop-drop, take-nil, take-all, take-suc, getD-drop}
 use Rattle.scan.specs.Lists.{part, all, first, isName, areNameBytes}
-use Rattle.scan.specs.Found.{Holds, FirstOf, inClass}
+use Rattle.scan.specs.Found.{Holds, textAt, nowhere, FirstOf, inClass}
+use Rattle.scan.specs.declared.Span.{Span}
 use Rattle.scan.specs.declared.Class.the-variants.{NotName}
 use Rattle.scan.specs.Text.{isEmpty, is, before}
-use lib.Dec.{ltb, eqb}
-use borrow.Author.Tests.{eq-eqb, ne-eqb}
-use Rattle.scan.proofs.Bools.{never, by-test}
+use lib.Dec.{leb, ltb, eqb}
+use borrow.Author.Tests.{eq-eqb, ne-eqb, le-leb, lt-leb, leb-true}
+use Rattle.scan.proofs.Bools.{never, and-both, by-test, cond-keeps}
 
 module _ {A : Type 0} where
   pub drop-take : (i n : ℕ) (l : List A) → drop i (take n l) ≡ take (n - i) (drop i l)
@@ -82,7 +83,41 @@ module _ {A : Type 0} where
       let o : i ≤ j = r .order in
       omega arith
 
--- a text that has a byte is not empty, nor is a part that ends after its start
+-- what stands at a place inside: what it holds; at any other place nothing stands
+pub text-inside : (s : List ℕ) (place : Span) → place .start ≤ place .end → place .end ≤ length s → textAt s place ≡ part (place .start) (place .end) s
+unfolding textAt
+text-inside s place o w = rw (le-leb (place .start) (place .end) o, le-leb (place .end) (length s) w)
+
+pub text-held : (s ys : List ℕ) (place : Span) → Holds s ys (place .start) (place .end) → textAt s place ≡ ys
+text-held s ys place h = text-inside s place (h .order) (h .within) ∙ h .is
+
+pub text-outside : (s : List ℕ) (place : Span) → length s < place .end → textAt s place ≡ []
+unfolding textAt
+text-outside s place h = rw (lt-leb (place .end) (length s) h, and-false)
+
+pub text-none : (s : List ℕ) (place : Span) → place .end ≤ place .start → textAt s place ≡ []
+unfolding textAt
+text-none s place h =
+    cond-keeps (λ (l : List ℕ). l ≡ []) (leb (place .start) (place .end) && leb (place .end) (length s)) (part (place .start) (place .end) s) [] (λ _. part-empty (place .start) (place .end) s h)
+    (λ _. refl)
+
+-- it is no longer than the whole, and nothing stands nowhere
+pub text-within : (s : List ℕ) (place : Span) → length (textAt s place) ≤ length s
+unfolding textAt
+text-within s place =
+    cond-keeps (λ (l : List ℕ). length l ≤ length s) (leb (place .start) (place .end) && leb (place .end) (length s)) (part (place .start) (place .end) s) []
+    (λ y. let e : place .end ≤ length s = leb-true (place .end) (length s) (and-both (leb (place .start) (place .end)) _ y .1) in
+    omega (arith, part-length (place .start) (place .end) s e))
+    (λ _. omega arith)
+
+pub text-nowhere : (s : List ℕ) → textAt s nowhere ≡ []
+text-nowhere s = text-none s nowhere (omega arith)
+
+-- a text that has no byte is empty; one that has is not, nor is a part that ends after its start
+pub no-text : (xs : List ℕ) → length xs ≤ 0 → isEmpty xs ≡ true
+no-text [] h = refl
+no-text (x ∷ xs) h = absurd (omega arith)
+
 pub some-text : (xs : List ℕ) → 0 < length xs → isEmpty xs ≡ false
 some-text [] h = absurd (omega arith)
 some-text (x ∷ xs) h = refl

@@ -1,6 +1,6 @@
 -- What the functions of this crate promise the crates above: where in a text something stands. No call of the box reaches it. Assumes nothing.
 use Prim.Native.Nat.{ℕ, _+_, _-_, _≤_, max}
-use mathlib.Core.Bool.{Bool, cond, not}
+use mathlib.Core.Bool.{Bool, cond, not, _&&_}
 use mathlib.Core.Path.{_≡_}
 use mathlib.Core.List.{List, [], _∷_, _++_}
 use lib.ListN.{length, drop}
@@ -29,6 +29,14 @@ pub record Holds {A : Type 0} (xs ys : List A) (start end : ℕ) : Type 0 where
   pub order : start ≤ end
   pub within : end ≤ length xs
   pub is : part start end xs ≡ ys
+
+-- what stands at a place; nothing where there is no such place
+unfoldable pub textAt : List ℕ → Span → List ℕ
+textAt s place = cond (leb (place .start) (place .end) && leb (place .end) (length s)) (part (place .start) (place .end) s) []
+
+-- the place of nothing
+abbrev pub nowhere : Span
+nowhere = record { start = 0; end = 0 }
 
 -- how many spaces stand at the start
 abbrev pub leading : List ℕ → ℕ

@@ -4,25 +4,24 @@ use mathlib.Core.Bool.{Bool, true, false, not, cond, _&&_}
 use mathlib.Core.List.{List, []}
 use Prim.Native.Nat.{ℕ, _≤_, _<_}
 use native.Mathlib.Omega.{arith}
-use lib.Dec.{eqb, leb, ltb}
+use lib.Dec.{eqb, ltb}
 use lib.ListN.{length}
-use borrow.Author.Tests.{eqb-true, eqb-false, le-leb, leb-true}
-use Rattle.scan.specs.Lists.{part, all, _gives_or_}
-use Rattle.scan.specs.Found.{Holds}
+use borrow.Author.Tests.{eqb-true, eqb-false}
+use Rattle.scan.specs.Lists.{all, _gives_or_}
+use Rattle.scan.specs.Found.{textAt}
 use Rattle.scan.specs.declared.Span.{Span}
-use Rattle.scan.proofs.Bools.{never, and-both, by-test, cond-keeps}
-use Rattle.scan.proofs.Parts.{part-length}
-use Rattle.digits.specs.Reading.{readNumber, isValue}
-use Rattle.digits.specs.declared.Zeros.the-variants.{Allowed}
-use Rattle.digits.specs.declared.Read.the-variants.{Nothing}
-use Rattle.digits.proofs.Limits.{Is-read, read-keeps, number-most}
+use Rattle.scan.proofs.Bools.{never, by-test, cond-keeps}
+use Rattle.scan.specs.Text.{isEmpty}
+use Rattle.scan.proofs.Parts.{text-held, text-within, text-nowhere}
+use Rattle.digits.specs.Reading.{readIn, isValue, digitsRead}
+use Rattle.digits.proofs.Limits.{are-digits}
 use Rattle.lines.specs.Lines.{isLaidOut, requestLine, headerLines}
 use Rattle.lines.specs.Headers.{valuesOf}
 use Rattle.lines.specs.Laid.{firstValue}
 use Rattle.target.specs.Line.{isThree}
 use Rattle.target.specs.Uri.{isUri, hostOf, hasQuery}
 use Rattle.aim.specs.Query.{partsOf, areParts}
-use Rattle.aim.specs.Found.{nowhere, isWithin, takesNoQuery, lacksStream}
+use Rattle.aim.specs.Found.{isWithin, takesNoQuery, lacksStream}
 use Rattle.aim.specs.Aim.{hasStream, isGiven, edits, uriRefusal}
 use Rattle.refusals.specs.Refusals as reading
 use Rattle.aim.specs.declared.Method.{Method}
@@ -30,11 +29,11 @@ use Rattle.aim.specs.declared.Method.the-variants.{Options, Setup, Play, Teardo
 use Rattle.refusals.specs.declared.Refusal.{Refusal}
 use Rattle.refusals.specs.declared.Refusal.the-variants as refusal
 use Rattle.reader.specs.Heads.{isOther, isVersion, RequestIs, areRepeated}
-use Rattle.reader.specs.Request.{methodOf, uriOf, cseqOf, headRefusal, requestRefusal}
+use Rattle.reader.specs.Request.{methodOf, uriOf, cseqDigits, cseqLimit, cseqOf, headRefusal, requestRefusal}
 use Rattle.reader.specs.declared.Request.{Request}
 use Rattle.table.specs.declared.Session.{Session}
 use Rattle.answer.specs.Lines.{refusedLines, answerLines}
-use Rattle.answer.specs.Answers.{textAt, linesBy, linesOf, answerText}
+use Rattle.answer.specs.Answers.{linesBy, linesOf, answerText}
 use Rattle.answer.specs.declared.Answer.{Answer}
 use Rattle.answer.specs.declared.Kind.the-variants as kind
 use Rattle.answer.proofs.Fits.{Is-small, answer-fits}
@@ -107,22 +106,6 @@ table-unread v =
     (unread-chain (lacksPort v) Transport Passed refl refl))))
 
 -- THE WORD THAT AN ANSWER REPEATS
-text-held : (s ys : List ℕ) (place : Span) → Holds s ys (place .start) (place .end) → textAt s place ≡ ys
-unfolding textAt
-text-held s ys place h = rw (le-leb (place .start) (place .end) (h .order), le-leb (place .end) (length s) (h .within)) (h .is)
-
-text-within : (s : List ℕ) (place : Span) → length (textAt s place) ≤ length s
-unfolding textAt
-text-within s place =
-    cond-keeps (λ (l : List ℕ). length l ≤ length s) (leb (place .start) (place .end) && leb (place .end) (length s)) (part (place .start) (place .end) s) []
-    (λ y. let e : place .end ≤ length s = leb-true (place .end) (length s) (and-both (leb (place .start) (place .end)) _ y .1) in
-    omega (arith, part-length (place .start) (place .end) s e))
-    (λ _. omega arith)
-
-text-nowhere : (s : List ℕ) → textAt s nowhere ≡ []
-unfolding textAt
-text-nowhere s = cond-keeps (λ (l : List ℕ). l ≡ []) (leb 0 0 && leb 0 (length s)) [] [] (λ _. refl) (λ _. refl)
-
 -- step 5 is a Require header's
 uri-step : (frontends : ℕ) (method : Method) (u : List ℕ) → readingRule (uriRefusal frontends method u) .0 ≡ 5 → ⊥
 unfolding uriRefusal
@@ -143,7 +126,7 @@ head-step : (s : List ℕ) → readingRule (headRefusal s) .0 ≡ 5 → headRefu
 unfolding headRefusal
 head-step s =
     keeps (not (isLaidOut s)) refusal.Layout _ (λ e. absurd (omega arith))
-    (keeps (not (isValue (cseqOf s))) refusal.CSeq _ (λ e. absurd (omega arith))
+    (keeps (isEmpty (cseqOf s)) refusal.CSeq _ (λ e. absurd (omega arith))
     (keeps (not (isThree (requestLine s))) refusal.RequestLine _ (λ e. absurd (omega arith))
     (keeps (areRepeated s) refusal.HeaderTwice _ (λ e. absurd (omega arith))
     (keeps (not (isVersion s)) refusal.Version _ (λ e. absurd (omega arith))
@@ -219,12 +202,16 @@ module _ (frontends : ℕ) (s : List ℕ) (r : Request) (i : RequestIs frontends
       (λ y. rw n (text-held s _ (r .require) (i .require (required-by y))))
       ∙ rw n)
 
+  -- and the digits of CSeq are those that were sent
+  cseq-told : textAt s (r .cseq) ≡ cseqOf s
+  cseq-told = text-held s (cseqOf s) (r .cseq) (i .cseq .held)
+
   -- THE ANSWER IS WHAT THE REQUEST'S BYTES SAY
   pub reply-told : (c : Case) (session : Session) → Follows r c → answerText s (replyTo c r session) ≡ replyText c s session
   unfolding replyTo replyText
   reply-told c session p =
-      ap (answerLines (ruleOf c .1) (r .cseq)) (lines-told c session p)
-      ∙ ap (λ n. answerLines (ruleOf c .1) n (linesIn c session)) (i .cseq)
+      ap (answerLines (ruleOf c .1) (textAt s (r .cseq))) (lines-told c session p)
+      ∙ ap (λ digits. answerLines (ruleOf c .1) digits (linesIn c session)) cseq-told
 
   -- ITS WORD IS SHORT
   word-short : (c : Case) → Follows r c → length (textAt s (wordAt c)) ≤ 2048
@@ -255,7 +242,7 @@ status-read refusal.PidsUnstreamed = omega arith
 status-read refusal.Value = omega arith
 status-read refusal.NoStream = omega arith
 
-status-small : (c : Case) → ruleOf c .1 < 1000
+pub status-small : (c : Case) → ruleOf c .1 < 1000
 status-small Passed = omega arith
 status-small (Reading q) = status-read q
 status-small NoSession = omega arith
@@ -268,14 +255,20 @@ status-small TooManyPids = omega arith
 status-small NotReached = omega arith
 status-small Full = omega arith
 
-cseq-small : (s : List ℕ) → Is-read Is-small (cseqOf s)
+-- CSeq has ten digits at most
+abbrev Is-short : List ℕ → Type 0
+Is-short digits = length digits ≤ 10
+
+pub cseq-short : (s : List ℕ) → Is-short (cseqOf s)
 unfolding cseqOf
-cseq-small s =
-    let value = firstValue (valuesOf 0 (headerLines s)) in
-    cond-keeps (Is-read Is-small) (isLaidOut s) _ Nothing
-    (λ _. cond-keeps (Is-read Is-small) (eqb (length (valuesOf 0 (headerLines s))) 1) _ Nothing
-    (λ _. read-keeps (λ v h. omega arith) (readNumber Allowed 10 4294967295 value) (number-most Allowed 10 4294967295 value)) (λ _. tt))
-    (λ _. tt)
+cseq-short s =
+    let vs = valuesOf 0 (headerLines s) in
+    let v = firstValue vs in
+    cond-keeps Is-short (isLaidOut s) (cond (eqb (length vs) 1) (digitsRead 10 cseqDigits cseqLimit v) []) []
+    (λ _. cond-keeps Is-short (eqb (length vs) 1) (digitsRead 10 cseqDigits cseqLimit v) []
+    (λ _. cond-keeps Is-short (isValue (readIn 10 cseqDigits cseqLimit v)) v [] (λ y. are-digits 10 cseqDigits cseqLimit v y .few) (λ _. omega arith))
+    (λ _. omega arith))
+    (λ _. omega arith)
 
 -- a session's numbers of 32 bits, as the code's are
 pub record Numbers (session : Session) : Type 0 where
@@ -289,13 +282,13 @@ module _ (frontends : ℕ) (s : List ℕ) (r : Request) (i : RequestIs frontends
   unfolding replyTo
   reply-fits c session p n =
       subst (λ t. length t ≤ 4096) (reply-told frontends s r i c session p)
-      (answer-fits (textAt s (cond (isPassed c) (r .host) (r .require))) (replyTo c r session)
+      (answer-fits (textAt s (r .cseq)) (textAt s (cond (isPassed c) (r .host) (r .require))) (replyTo c r session)
       (record {
         status = omega (arith, status-small c);
-        cseq = subst (Is-read Is-small) (sym (i .cseq)) (cseq-small s);
         session = n .number;
         stream = n .stream;
         address = n .address;
         port = n .port;
       })
+      (rw (cseq-told frontends s r i) (cseq-short s))
       (word-short frontends s r i c p))

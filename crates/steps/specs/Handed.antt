@@ -7,9 +7,8 @@ use mathlib.Core.List.{List}
 use lib.Dec.{eqb, ltb}
 use lib.ListN.{getD}
 use Rattle.scan.specs.Lists.{part, _gives_or_}
-use Rattle.scan.specs.Found.{Holds}
+use Rattle.scan.specs.Found.{Holds, nowhere}
 use Rattle.scan.specs.declared.Span.{Span}
-use Rattle.aim.specs.Found.{nowhere}
 use Rattle.aim.specs.declared.Method.{Method}
 use Rattle.aim.specs.declared.Method.the-variants.{Options, Setup, Play, Teardown, Other}
 use Rattle.refusals.specs.declared.Refusal.{Refusal}

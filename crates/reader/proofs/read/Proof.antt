@@ -1,10 +1,9 @@
 -- `reader::read` meets its contract. Assumes nothing.
-use mathlib.Core.Path.{refl, sym, ap, _∙_}
+use mathlib.Core.Path.{refl}
 use native.Mathlib.Omega.{arith}
 use borrow.Author.Needs.{needs}
 use borrow.Author.Tests.{not-true, not-false}
-use Rattle.digits.specs.Reading.{isValue}
-use Rattle.reader.proofs.RequestLaws.{head-refused, request-broken, cseq-read, request-uncounted}
+use Rattle.reader.proofs.RequestLaws.{head-refused, request-broken, cseq-seen, cseq-empty, cseq-some, request-uncounted}
 use Rattle.reader.proofs.read.Statement.{statement}
 use Rattle.reader.proofs.read.Tie as tie
 
@@ -17,28 +16,22 @@ returns c =
 cseq-in-requires : tie.Need-cseq-in-requires
 cseq-in-requires c κs =
     let i = c .before .before in
-    let h = i .before .before .read-lines .ensures .headers (not-false _ (i .if1 .left)) 0 (omega arith) .value in
-    (h .order, h .within)
+    cseq-seen _ (i .before .before .read-lines .ensures) (not-false _ (i .if1 .left))
 
 returns-2 : tie.Need-returns-2
 returns-2 c =
-    let v = c .before .before in
-    let q = v .before in
+    let q = c .before .before .before in
     let i = q .before .before .before in
     let l = i .before .before .read-lines .ensures in
-    let y = not-false _ (i .if1 .left) in
-    let e = cseq-read _ l y (q .cseq-in .ensures) in
-    head-refused (request-uncounted _ l y e (sym (v .is-value .ensures) ∙ not-true _ (c .before .if2 .taken))) refl (λ z. omega arith) e (c .refuse2 .ensures)
+    let e = q .cseq-in .ensures in
+    head-refused (request-uncounted _ l (not-false _ (i .if1 .left)) (cseq-empty e (c .before .if2 .taken))) refl (λ z. omega arith) e (c .refuse2 .ensures)
 
 read-line-requires : tie.Need-read-line-requires
 read-line-requires c κs =
-    let v = c .before in
-    let q = v .before in
+    let q = c .before .before in
     let i = q .before .before .before in
-    let l = i .before .before .read-lines .ensures in
-    let y = not-false _ (i .if1 .left) in
-    let e = cseq-read _ l y (q .cseq-in .ensures) in
-    record { lines = l; whole = y; cseq-is = e; some = ap isValue (sym e) ∙ sym (v .is-value .ensures) ∙ not-false _ (c .if2 .left) }
+    let e = q .cseq-in .ensures in
+    record { lines = i .before .before .read-lines .ensures; whole = not-false _ (i .if1 .left); cseq-is = e; some = cseq-some e (c .if2 .left) }
 
 pub read-spec : {M : Type 1} → statement M
 read-spec =
@@ -49,7 +42,6 @@ read-spec =
     returns
     (λ c. search needs)
     cseq-in-requires
-    (λ c κs. search needs)
     (λ c κs. search needs)
     returns-2
     read-line-requires

@@ -2,7 +2,7 @@
 use mathlib.Core.Bool.{and-false}
 use borrow.Author.Needs.{needs}
 use borrow.Author.Tests.{le-leb, lt-leb}
-use Rattle.answer.specs.Answers.{textAt}
+use Rattle.scan.specs.Found.{textAt}
 use Rattle.answer.proofs.puts.put_part.Statement.{statement}
 use Rattle.answer.proofs.puts.put_part.Tie as tie
 

@@ -5,8 +5,13 @@ use Rattle.answer.proofs.puts.put_sequence.Statement.{statement}
 use Rattle.answer.proofs.puts.put_sequence.Tie as tie
 
 returns : tie.Need-returns
-returns c = search _then_
+returns c =
+    let c3 = c .before .before in
+    let c2 = c3 .before .before .before .before .before in
+    let c1 = c2 .before .before .before .before in
+    c1 .put .ensures
+    then c2 .put2 .ensures
+    then c3 .put3 .ensures
 
 pub put-sequence-spec : {M : Type 1} → statement M
-put-sequence-spec =
-    tie.close (tie.spec (λ c. search needs) (λ c κs. search needs) (λ c κs. search needs) (λ c. search needs) returns)
+put-sequence-spec = tie.close (tie.spec (λ c. search needs) (λ c κs. search needs) (λ c κs. search needs) (λ c. search needs) (λ c κs. search needs) (λ c. search needs) returns)
