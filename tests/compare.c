@@ -167,16 +167,17 @@ static const unsigned refusals[KINDS] = {
 static bool print_statuses(void)
 {
     bool all = reached.unnumbered > 0;
-    printf("%-8s %10s %10s %10s %10s %10s\n", "status", "OPTIONS", "SETUP", "PLAY", "TEARDOWN", "other");
+    printf("%-8s %10s %10s %10s %10s %10s %10s\n", "status", "OPTIONS", "SETUP", "PLAY", "TEARDOWN", "other",
+           "CSeq: 0..");
     for (size_t i = 0; i < sizeof statuses / sizeof *statuses; i++) {
-        unsigned long sum = 0;
+        unsigned long sum = 0, zeros = reached.cseq.zeros[statuses[i]];
         printf("%-8u", statuses[i]);
         for (size_t method = 0; method < METHODS; method++) {
             printf(" %10lu", reached.statuses[statuses[i]][method]);
             sum += reached.statuses[statuses[i]][method];
         }
-        printf("%s\n", sum == 0 ? "  NOT REACHED" : "");
-        all &= sum > 0;
+        printf(" %10lu%s\n", zeros, sum == 0 || zeros == 0 ? "  NOT REACHED" : "");
+        all &= sum > 0 && zeros > 0;
     }
     printf("400 without CSeq: %lu\n", reached.unnumbered);
     return all;
@@ -233,6 +234,17 @@ static bool print_sets(void)
     return print_rows(rows, sizeof rows / sizeof *rows);
 }
 
+static bool print_cseq(void)
+{
+    const struct reached_cseq *cseq = &reached.cseq;
+    const struct row rows[] = {
+        {"CSeq of ten digits, the first of them 0", cseq->ten}, {"with more spaces around it", cseq->spaced},
+        {"past the request's first 1,024 bytes", cseq->far}, {"400 for a CSeq of more than ten digits", cseq->longer},
+        {"for ten past 4294967295", cseq->large}
+    };
+    return print_rows(rows, sizeof rows / sizeof *rows);
+}
+
 static bool print_rest(void)
 {
     const struct row rows[] = {
@@ -252,6 +264,7 @@ static bool print_reached(void)
     all &= print_refusals();
     all &= print_rest();
     all &= print_sets();
+    all &= print_cseq();
     return all;
 }
 

@@ -72,9 +72,19 @@ struct reached_sets {
     unsigned long changed;                    /* later srcs taken where the frontend does not reach all four */
 };
 
-/* How often what was reached. A status is counted at its number; methods in the order of compare_reached.c. */
+/* A status is counted at its number; methods in the order of compare_reached.c. */
 enum { METHODS = 5, STATUSES = 600, REFUSALS = 9 };
 
+/* How CSeq came back, order 2 of document 02. */
+struct reached_cseq {
+    unsigned long zeros[STATUSES];            /* answers with a leading zero, by status */
+    unsigned long ten;                        /* answers with ten digits, the first of them 0 */
+    unsigned long spaced;                     /* answers where more spaces were sent than the one after the colon */
+    unsigned long far;                        /* answers where they stand past the request's first 1,024 bytes */
+    unsigned long longer, large;              /* 400 for nothing but digits past ten, or ten past 4294967295 */
+};
+
+/* How often what was reached. */
 struct reached {
     unsigned long calls[KINDS][REFUSALS];     /* by kind and refusal, 0 if done */
     unsigned long statuses[STATUSES][METHODS];
@@ -89,6 +99,7 @@ struct reached {
     unsigned long orders_on;
     unsigned long tables_good, tables_bad;    /* changed by hand, and taken or refused by the next call */
     struct reached_sets sets;
+    struct reached_cseq cseq;
 };
 
 /* compare_both.c */

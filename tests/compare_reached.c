@@ -1,6 +1,6 @@
 /*
- * Counts what the calls reached: refusals, statuses, records, tables changed by hand, and what the frontends' sets
- * decide.
+ * Counts what the calls reached: refusals, statuses, records, tables changed by hand, what the frontends' sets decide,
+ * and how CSeq came back.
  */
 #include "compare.h"
 
@@ -43,6 +43,17 @@ static uint32_t sessions_open(void)
     for (size_t i = 0; i < PLAIN_SESSIONS; i++)
         open += plain.box.sessions[i].number != 0;
     return open;
+}
+
+/* Makes a request on another box, and gives its answer; nothing of the two sides changes. */
+static const uint8_t *answer_of(struct plain_box box, const struct call *call)
+{
+    static uint8_t answer[PLAIN_ANSWER_BYTES], journal[JOURNAL_ROOM];
+    const uint64_t *n = call->numbers;
+    size_t count;
+    plain_request(&box, call->bytes, call->length, (uint32_t)n[0], (uint32_t)n[1], (uint32_t)n[2], answer,
+                  sizeof answer, &count, journal, n[4]);
+    return answer;
 }
 
 /* What the frontends' sets decide. */
@@ -102,13 +113,7 @@ static void count_bad_table(void)
 /* A 503 that would be none if all sets were full. Asked again, a request that was not obeyed sweeps nothing more. */
 static void count_out_of_reach(const struct call *call)
 {
-    static uint8_t answer[PLAIN_ANSWER_BYTES], journal[JOURNAL_ROOM];
-    struct plain_box full = all_reaching();
-    const uint64_t *n = call->numbers;
-    size_t count;
-    plain_request(&full, call->bytes, call->length, (uint32_t)n[0], (uint32_t)n[1], (uint32_t)n[2], answer,
-                  sizeof answer, &count, journal, n[4]);
-    if (status_of(answer) == 503)
+    if (status_of(answer_of(all_reaching(), call)) == 503)
         return;
     if (call->bytes[0] == 'P')
         reached.sets.play++;
@@ -147,16 +152,85 @@ static void count_changed_src(void)
     }
 }
 
+/* How CSeq came back. */
+
+/* The digits of the first CSeq header of a request: where they start, how many, and whether there are more spaces. */
+struct digits {
+    size_t place, count;
+    bool spaced;
+};
+
+/* The first place, from this one on, whose byte is not one of these. */
+static size_t past(const struct call *call, size_t place, uint8_t low, uint8_t high)
+{
+    while (place < call->length && call->bytes[place] >= low && call->bytes[place] <= high)
+        place++;
+    return place;
+}
+
+static struct digits digits_in(const struct call *call)
+{
+    static const char lower[] = "\ncseq:", upper[] = "\nCSEQ:";
+    size_t value = 0, same = 0;
+    for (; value < call->length && lower[same] != '\0'; value++) {
+        const uint8_t byte = call->bytes[value];
+        same = byte == lower[same] || byte == upper[same] ? same + 1 : byte == '\n';
+    }
+    const size_t place = past(call, value, ' ', ' '), end = past(call, place, '0', '9');
+    return (struct digits){place, end - place, place - value > 1 || past(call, end, ' ', ' ') > end};
+}
+
+/* Does the answer carry a CSeq of these digits? */
+static bool carries(const uint8_t *answer, const struct call *call, const struct digits *digits)
+{
+    const char *line = strchr((const char *)answer, '\n') + 1;
+    return memcmp(line, "CSeq: ", 6) == 0 && memcmp(line + 6, call->bytes + digits->place, digits->count) == 0
+        && line[6 + digits->count] == '\r';
+}
+
+static void count_copied(const struct call *call, unsigned status)
+{
+    const struct digits digits = digits_in(call);
+    const bool zero = digits.count > 1 && call->bytes[digits.place] == '0';
+    if (!carries(plain.answer, call, &digits))
+        return;
+    reached.cseq.zeros[status] += zero;
+    reached.cseq.ten += zero && digits.count == 10;
+    reached.cseq.spaced += digits.spaced;
+    reached.cseq.far += digits.place >= 1024;
+}
+
+/* A 400 without CSeq: would it carry one if a 1 stood in place of the digits? */
+static void count_refused(const struct call *call)
+{
+    static struct call other;
+    const struct digits digits = digits_in(call), one = {digits.place, 1, false};
+    if (digits.count < 10)
+        return;
+    other = *call;
+    memset(other.bytes + digits.place, ' ', digits.count);
+    other.bytes[digits.place] = '1';
+    if (!carries(answer_of(plain.box, &other), &other, &one))
+        return;
+    reached.cseq.longer += digits.count > 10;
+    reached.cseq.large += digits.count == 10;
+}
+
 /* The rest. */
 
 static void count_status(const struct call *call)
 {
     unsigned status = status_of(plain.answer);
+    bool unnumbered = status == 400 && plain.outcome.count == strlen("RTSP/1.0 400 Bad Request\r\n\r\n");
     uint32_t open = sessions_open();
     if (status >= STATUSES)
         return;
     reached.statuses[status][method_of(call)]++;
-    reached.unnumbered += status == 400 && plain.outcome.count == strlen("RTSP/1.0 400 Bad Request\r\n\r\n");
+    reached.unnumbered += unnumbered;
+    if (unnumbered)
+        count_refused(call);
+    else
+        count_copied(call, status);
     if (status != 503)
         return;
     count_out_of_reach(call);

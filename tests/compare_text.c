@@ -74,17 +74,39 @@ static void end_line(void)
     put(once_in(SPOIL * 20) ? ANY("\r", "\n", "\r\r\n", "\n\r", "\t\r\n", "") : "\r\n");
 }
 
+/* A number with zeros in front, where it has not as many digits of its own. */
+static void put_digits(uint64_t number, uint64_t digits)
+{
+    char text[24];
+    snprintf(text, sizeof text, "%0*llu", (int)digits, (unsigned long long)number);
+    put(text);
+}
+
+/* The digits of a CSeq: of any length, plain or with zeros in front, around the limits, past them, or none. */
+static void put_cseq_digits(void)
+{
+    const uint64_t number = chance() >> (32 + below(32));
+    if (once_in(SPOIL))
+        put(ANY("", "1a", "-1", "4294967296", "00000000001", "04294967295", "99999999999", "9999999999", "1 2", "+1",
+                "0x1"));
+    else if (once_in(SPOIL))
+        put_digits(number, once_in(2) ? 11 : 12 + below(8));
+    else if (once_in(SPOIL * 2))
+        put_digits(below(10000000000), 10);
+    else if (once_in(6))
+        put(ANY("0", "00", "007", "0000000001", "0000000000", "0429496729", "0999999999", "4294967294", "4294967295"));
+    else
+        put_digits(number, once_in(3) ? 1 : once_in(3) ? 10 : 2 + below(9));
+}
+
 static void put_cseq(void)
 {
     if (once_in(SPOIL * 2) && once_in(2))
         return;
     put_header("CSeq");
-    if (once_in(SPOIL))
-        put(ANY("", "1a", "-1", "4294967296", "00000000001", "99999999999", "9999999999", "1 2", "+1", "0x1"));
-    else if (once_in(4))
-        put(ANY("0", "0000000001", "0000000000", "4294967295", "4294967294", "007"));
-    else
-        put_number(chance() >> (32 + below(32)));
+    put(once_in(6) ? ANY(" ", "    ", "          ") : "");
+    put_cseq_digits();
+    put(once_in(6) ? ANY(" ", "   ", "          ") : "");
     end_line();
 }
 
@@ -172,10 +194,9 @@ static void put_require(void)
     end_line();
 }
 
-/* A header that makes the request about 2,048 bytes long with its empty line; at times its value comes back. */
-static void put_long_header(void)
+/* A header that makes the request so long without its line's end; at times its value comes back. */
+static void put_long_header(size_t end)
 {
-    size_t end = 2042 + below(5);
     put(once_in(2) ? "Require: " : "X-Long: ");
     while (out->length < end)
         put("y");
@@ -227,10 +248,12 @@ static void put_headers(enum errand errand, const struct plain_session *session)
         put_transport();
     if (once_in(SPOIL * 2))
         put_require();
+    if (last && once_in(SPOIL))
+        put_long_header(below(2030));
     if (last)
         put_cseq();
     if (once_in(SPOIL * 2))
-        put_long_header();
+        put_long_header(2042 + below(5));
 }
 
 /* Damages one byte; the places go round so that each has its turn. */

@@ -126,7 +126,7 @@ static void settle(int bystander)
 
 static void split_everywhere(int bystander)
 {
-    static const char request[] = "OPTIONS rtsp://127.0.0.1/ RTSP/1.0\r\nCSeq: 44\r\n\r\n";
+    static const char request[] = "OPTIONS rtsp://127.0.0.1/ RTSP/1.0\r\nCSeq: 0044\r\n\r\n";
     const int television = dial(2);
     size_t at;
 
@@ -134,7 +134,7 @@ static void split_everywhere(int bystander)
         say(television, request, at);
         settle(bystander);
         say(television, request + at, sizeof request - 1 - at);
-        CHECK(strstr(hear(television), "\r\nCSeq: 44\r\n") != NULL);
+        CHECK(strstr(hear(television), "\r\nCSeq: 0044\r\n") != NULL);
     }
     for (at = 0; at < sizeof request - 1; at++) {
         say(television, request + at, 1);

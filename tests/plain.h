@@ -1,7 +1,7 @@
 /*
- * Document 01 with order 1 of document 02 in plain C: the calls of the box as a firmware would make them. A second
- * implementation, written from the papers alone, so that the first one can be compared with it call by call and
- * field by field.
+ * Document 01 with orders 1 and 2 of document 02 in plain C: the calls of the box as a firmware would make them. A
+ * second implementation, written from the papers alone, so that the first one can be compared with it call by call
+ * and field by field.
  */
 #ifndef PLAIN_H
 #define PLAIN_H

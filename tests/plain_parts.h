@@ -63,18 +63,17 @@ enum {
 
 /* What steps 1 to 9 read in a request. */
 struct reading {
-    bool numbered;              /* steps 1 and 2 passed: the answer carries cseq */
     bool session_sent;          /* there is a Session header */
     bool query;                 /* the URI has a query */
     bool pids_given, pids_all;  /* pids is there; it is "all" */
     enum method method;
-    uint32_t cseq;
     uint32_t session;           /* the number sent; 0 if it is none */
     uint32_t port;              /* a of a good Transport, else 0 */
     uint32_t stream;            /* the stream named, else 0 */
     uint32_t fe;                /* the frontend asked for, else 0 */
     struct plain_values values; /* those given, the others 0 */
     struct text pids, addpids, delpids; /* lists of good numbers, empty if there are none */
+    struct text cseq;           /* CSeq's digits, which the answer carries; empty if step 1 or 2 refuses */
     struct text host;           /* the URI's host */
     struct text require;        /* the value of Require */
 };

@@ -153,13 +153,13 @@ enum status plain_read(struct text request, uint32_t frontends, struct reading *
     struct headers headers = {{{NULL, 0}}, {0}};
     struct request_line parts;
     struct text line;
+    uint32_t number;
     *reading = (struct reading){.method = METHOD_OTHER};
     if (request.length > PLAIN_REQUEST_BYTES || !read_layout(request, &line, &headers))
         return STATUS_BAD_REQUEST;                                  /* step 1 */
-    if (headers.counts[CSEQ] != 1
-        || !read_number(headers.values[CSEQ], 10, 0, UINT32_MAX, &reading->cseq))
+    if (headers.counts[CSEQ] != 1 || !read_number(headers.values[CSEQ], 10, 0, UINT32_MAX, &number))
         return STATUS_BAD_REQUEST;                                  /* step 2 */
-    reading->numbered = true;
+    reading->cseq = headers.values[CSEQ];
     if (!read_request_line(line, &parts) || known_twice(&headers))
         return STATUS_BAD_REQUEST;                                  /* step 3 */
     if (!same(parts.version, "RTSP/1.0"))

@@ -1,7 +1,7 @@
 /*
- * Tests of the plain box: document 01's example and P1 to P11, EDGES.md section by section (reading A), order 1 of
- * document 02, every status, refusals 1 to 8 with all that stays, and a long evening of chance requests. Runs the
- * tests of the other files in turn and counts their checks. Ends with 1 and the lines if a check fails.
+ * Tests of the plain box: document 01's example and P1 to P11, EDGES.md section by section (reading A), orders 1 and
+ * 2 of document 02, every status, refusals 1 to 8 with all that stays, and a long evening of chance requests. Runs
+ * the tests of the other files in turn and counts their checks. Ends with 1 and the lines if a check fails.
  */
 #include "plain_test.h"
 
@@ -36,6 +36,7 @@ int main(void)
     test_query();
     test_steps();
     test_reach();
+    test_cseq_comes_back();
     test_sweep();
     test_texts();
     test_refusals();

@@ -102,6 +102,10 @@ void test_table(void);
 
 /* plain_test_read.c */
 
+/* Sends an OPTIONS with this text behind the colon of its CSeq; is the last answer its 200 with these digits? */
+int ask_cseq(const char *value);
+bool numbered(const char *digits);
+
 /* Sends an OPTIONS whose URI has this length and is good but for that. */
 int ask_uri_length(size_t length);
 
@@ -119,6 +123,10 @@ void test_texts(void);
 /* plain_test_reach.c */
 
 void test_reach(void);
+
+/* plain_test_cseq.c */
+
+void test_cseq_comes_back(void);
 
 /* plain_test_sweep.c */
 

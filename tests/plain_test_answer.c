@@ -306,7 +306,7 @@ static void test_failure_texts(void)
     SAYS("RTSP/1.0 501 Not Implemented\r\nCSeq: 1\r\nPublic: OPTIONS, SETUP, PLAY, TEARDOWN\r\n\r\n",
          ask("PAUSE rtsp://h/stream=1", ""));
     SAYS("RTSP/1.0 503 Service Unavailable\r\nCSeq: 1\r\n\r\n", in(0, "SETUP", "/?pol=h"));
-    SAYS("RTSP/1.0 505 RTSP Version Not Supported\r\nCSeq: 1\r\n\r\n",
+    SAYS("RTSP/1.0 505 RTSP Version Not Supported\r\nCSeq: 01\r\n\r\n",
          raw("OPTIONS rtsp://h/ RTSP/2.0\r\nCSeq: 01\r\n\r\n"));
     SAYS("RTSP/1.0 551 Option Not Supported\r\nCSeq: 1\r\nUnsupported: specific-feature\r\n\r\n",
          ask("PLAY rtsp://h/stream=1", "Require: specific-feature\r\n"));

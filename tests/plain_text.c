@@ -142,9 +142,9 @@ size_t plain_write_answer(uint8_t *bytes, enum status status, const struct readi
     put(&answer, " ");
     put(&answer, reason(status));
     put(&answer, "\r\n");
-    if (reading->numbered) {
+    if (reading->cseq.length > 0) {
         put(&answer, "CSeq: ");
-        put_number(&answer, reading->cseq);
+        put_text(&answer, reading->cseq);
         put(&answer, "\r\n");
     }
     if (status == STATUS_OK)
