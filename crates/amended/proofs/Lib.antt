@@ -1,2 +1,4 @@
 pub mod Reaching
 pub mod AsBefore
+pub mod Spellings
+pub mod Cseqs
