@@ -53,7 +53,7 @@
 #define SATBOX_CLOCK_MAX 4294967295u    /* here time stands still: no session opened now ever expires */
 
 /* Bytes of stack that each call takes, with its arguments on it and its return address. docs/FIRMWARE.md says how that was measured. */
-#define SATBOX_STACK_REQUEST 6184u
+#define SATBOX_STACK_REQUEST 6168u
 #define SATBOX_STACK_TICK 3272u
 #define SATBOX_STACK_ORDER 2776u
 #define SATBOX_STACK_COLLECT 2712u
