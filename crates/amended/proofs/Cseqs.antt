@@ -109,6 +109,9 @@ sends-is {s} {digits} c =
       le-leb (spelled 10 digits) 4294967295 (c .small),
     )
 
+sent : {s digits : List ℕ} → cseqOf s ≡ digits → Sends s digits → isEmpty (cseqOf s) ≡ false
+sent {s} {digits} e d = ap isEmpty e ∙ some-text digits (d .some)
+
 only : (vs : List (List ℕ)) → length vs ≡ 1 → vs ≡ getD vs 0 [] ∷ []
 only [] e = absurd (omega arith)
 only (v ∷ []) e = refl
@@ -174,13 +177,17 @@ text-both : (x y : List ℕ) → all isText x ≡ true → all isText y ≡ true
 text-both [] y p q = q
 text-both (z ∷ x) y p q = let m = and-both (isText z) (all isText x) p in rw (m .0, text-both x y (m .1) q)
 
--- the first line of an answer, and what stands behind the second
+-- the first line of an answer; what stands before the digits of CSeq, and what behind them
 abbrev pub statusText : Case → List ℕ
 statusText c = text "RTSP/1.0 " & decimal (ruleOf c .1) & text " " & text (reasonOf (ruleOf c .1))
 
-abbrev later : Case → List ℕ → Session → List ℕ
-later c s session =
-    cond (isPassed c) (grantedLines (methodOf s) (hostOf (uriOf s)) session) (refusedLines (ruleOf c .0) (getD (valuesOf 3 (headerLines s)) 0 []))
+abbrev pub frontOf : Case → List ℕ
+frontOf c = statusText c & text "\r\nCSeq: "
+
+abbrev pub backOf : Case → List ℕ → Session → List ℕ
+backOf c s session =
+    text "\r\n"
+    & cond (isPassed c) (grantedLines (methodOf s) (hostOf (uriOf s)) session) (refusedLines (ruleOf c .0) (getD (valuesOf 3 (headerLines s)) 0 []))
     & text "\r\n"
 
 status-text : (c : Case) → all isText (statusText c) ≡ true
@@ -188,23 +195,32 @@ status-text c =
     let v = ruleOf c .1 in
     text-both (decimal v) (text " " & text (reasonOf v)) (digits-text (decimal v) (decimal-is v (omega (arith, status-small c)) .are)) (reason-text v)
 
--- in lines, where the request has a CSeq
-in-lines : (code reason digits more : List ℕ)
+in-place : (code reason digits more : List ℕ)
     → text "RTSP/1.0 " & code & (text " " & reason & text "\r\n") & (text "CSeq: " & digits & text "\r\n") & more
-    ≡ (text "RTSP/1.0 " & code & text " " & reason) & text "\r\n" & (text "CSeq: " & digits) & text "\r\n" & more
-in-lines code reason digits more = simp append-assoc
+    ≡ ((text "RTSP/1.0 " & code & text " " & reason) & text "\r\nCSeq: ") & digits & text "\r\n" & more
+in-place code reason digits more = simp append-assoc
 
-reply-lines : (c : Case) (s : List ℕ) (session : Session) → Sends s (cseqOf s)
-    → lines (replyText c s session) ≡ statusText c ∷ (text "CSeq: " & cseqOf s) ∷ lines (later c s session)
-unfolding replyText
-reply-lines c s session d =
-    let n : isEmpty (cseqOf s) ≡ false = some-text (cseqOf s) (d .some) in
-    let more = later c s session in
-    let second = (text "CSeq: " & cseqOf s) & text "\r\n" & more in
-    let e : replyText c s session ≡ statusText c & text "\r\n" & second = rw n (in-lines (decimal (ruleOf c .1)) (text (reasonOf (ruleOf c .1))) (cseqOf s) more) in
-    ap lines e
-    ∙ line-first (statusText c) second (status-text c)
-    ∙ ap (λ ls. statusText c ∷ ls) (line-first (text "CSeq: " & cseqOf s) more (digits-text (cseqOf s) (d .are)))
+number-sent : (s : List ℕ) → isEmpty (cseqOf s) ≡ false → numberBefore s ≡ Value (spelled 10 (cseqOf s))
+number-sent s n = by (sending s)
+  where
+    by : Sending s → numberBefore s ≡ Value (spelled 10 (cseqOf s))
+    by (none e f) = never (ap isEmpty e) n
+    by (some d f) = f
+
+module _ (c : Case) (s : List ℕ) (session : Session) (n : isEmpty (cseqOf s) ≡ false) where
+  reply-in-place : replyText c s session ≡ frontOf c & cseqOf s & backOf c s session
+  unfolding replyText
+  reply-in-place = rw n (in-place (decimal (ruleOf c .1)) (text (reasonOf (ruleOf c .1))) (cseqOf s) _)
+
+  before-in-place : replyBefore c s session ≡ frontOf c & decimal (spelled 10 (cseqOf s)) & backOf c s session
+  unfolding replyBefore
+  before-in-place = rw (number-sent s n) (in-place (decimal (ruleOf c .1)) (text (reasonOf (ruleOf c .1))) (decimal (spelled 10 (cseqOf s))) _)
+
+  second-line : all isDigit (cseqOf s) ≡ true → getD (lines (replyText c s session)) 1 [] ≡ text "CSeq: " & cseqOf s
+  second-line d =
+      ap (λ l. getD (lines l) 1 []) (reply-in-place ∙ append-assoc (statusText c) (text "\r\nCSeq: ") (cseqOf s & backOf c s session))
+      ∙ ap (λ ls. getD ls 1 []) (line-first (statusText c) (text "CSeq: " & cseqOf s & backOf c s session) (status-text c))
+      ∙ ap (λ ls. getD ls 0 []) (line-first (text "CSeq: " & cseqOf s) _ (digits-text (cseqOf s) d))
 
 -- the answer of steps 1 and 2
 refusal-early : (frontends : ℕ) (s : List ℕ) (r : Refusal) → headRefusal s ≡ r → reading.isRead r ≡ false → requestRefusal frontends s ≡ r
@@ -251,13 +267,15 @@ line-as-before s h = by (sending s)
         (one-spelling (cseqOf s) (decimal n) (record { some = d .some; are = d .are; bare = h (cseqOf s) d }) (decimal-is n (d .small)) (sym (decimal-says n (d .small)))))
 
 module _ (s : List ℕ) (clock address draw : ℕ) (t : SatBox) where
+  abbrev turn : Serving
+  turn = requested s clock address draw t
+
   -- "EVERY ANSWER THAT CARRIES CSEQ COPIES THOSE DIGITS": the second line is `CSeq: ` and the digits that were sent
   pub comes-back : (digits : List ℕ) → Sends s digits → getD (lines (answerOf s clock address draw t)) 1 [] ≡ text "CSeq: " & digits
   unfolding answerOf
   comes-back digits d =
       let e = sends-is d in
-      let turn = requested s clock address draw t in
-      ap (λ ls. getD ls 1 []) (reply-lines (turn .case) s (turn .session) (rw e d)) ∙ ap (λ x. text "CSeq: " & x) e
+      rw (← e) (second-line (turn .case) s (turn .session) (sent e d) (rw e (d .are)))
 
   -- AND NO OTHER ANSWER CARRIES ONE
   refused-early : (r : Refusal) → headRefusal s ≡ r → reading.isRead r ≡ false → answerOf s clock address draw t ≡ replyText (Reading r) s noSession
@@ -272,11 +290,22 @@ module _ (s : List ℕ) (clock address draw : ℕ) (t : SatBox) where
       by (none e f) (isnt z) = refused-early refusal.Layout (unlaid s z) refl ∙ early-text s e .0
       by (none e f) (is y) = refused-early refusal.CSeq (uncounted s y e) refl ∙ early-text s e .1
 
-  -- AS BEFORE: the same case, session, table and records, whatever the CSeq; and without leading zeros the same answer, byte for byte
+  -- AS BEFORE: the same case, session, table and records, whatever the CSeq
   pub requested-as-before : requested s clock address draw t ≡ requestedBefore s clock address draw t
   unfolding requested requestedBefore answered servedBefore requestRefusal
   requested-as-before = rw (head-as-before s)
 
+  -- the answer to a request with a CSeq is that of before but for the digits, which were those of the number
+  pub nothing-else : (digits : List ℕ) → Sends s digits
+      → (answerOf s clock address draw t ≡ frontOf (turn .case) & digits & backOf (turn .case) s (turn .session))
+      × (answerBefore s clock address draw t ≡ frontOf (turn .case) & decimal (spelled 10 digits) & backOf (turn .case) s (turn .session))
+  unfolding answerOf answerBefore
+  nothing-else digits d =
+      let e = sends-is d in
+      let n = sent e d in
+      rw (← e, ← requested-as-before) (reply-in-place (turn .case) s (turn .session) n, before-in-place (turn .case) s (turn .session) n)
+
+  -- so without leading zeros it is the same, byte for byte
   pub answer-as-before : ((digits : List ℕ) → Sends s digits → hasLeadingZero digits ≡ false) → answerOf s clock address draw t ≡ answerBefore s clock address draw t
   unfolding answerOf answerBefore replyText replyBefore
   answer-as-before h = rw (← requested-as-before, line-as-before s h)

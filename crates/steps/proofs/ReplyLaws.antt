@@ -266,7 +266,7 @@ cseq-short s =
     let v = firstValue vs in
     cond-keeps Is-short (isLaidOut s) (cond (eqb (length vs) 1) (digitsRead 10 cseqDigits cseqLimit v) []) []
     (λ _. cond-keeps Is-short (eqb (length vs) 1) (digitsRead 10 cseqDigits cseqLimit v) []
-    (λ _. cond-keeps Is-short (isValue (readIn 10 cseqDigits cseqLimit v)) v [] (λ y. are-digits 10 cseqDigits cseqLimit v y .few) (λ _. omega arith))
+    (λ _. cond-keeps Is-short (isValue (readIn 10 cseqDigits cseqLimit v)) v [] (λ y. omega (arith, are-digits 10 cseqDigits cseqLimit v y .few)) (λ _. omega arith))
     (λ _. omega arith))
     (λ _. omega arith)
 
