@@ -1,18 +1,18 @@
 -- A number has one spelling without leading zeros; and texts whose lines are known. Assumes nothing.
 use mathlib.Core.Path.{_≡_, refl, sym, ap, _∙_}
-use mathlib.Core.Bool.{Bool, true, false, not, cond, _&&_}
+use mathlib.Core.Bool.{true, false}
 use mathlib.Core.List.{List, [], _∷_, map}
-use Prim.Native.Nat.{ℕ, zero, suc, _+_, _-_, _*_, _^_, _≤_, _<_}
+use Prim.Native.Nat.{ℕ, suc, _+_, _-_, _*_, _^_, _≤_, _<_}
 use native.Mathlib.Decide.{decLt}
 use native.Mathlib.Nat.{pow-zero, pow-succ', mul-one, one-mul, mul-assoc, mul-le-mul-right, pow-le-pow-right, le-refl, le-trans}
 use native.Mathlib.Omega.{arith}
-use lib.Dec.{leb, ltb, eqb}
+use lib.Dec.{leb, ltb}
 use lib.ListN.{length, getD, drop, length-map}
-use borrow.Author.Tests.{ltb-true, lt-ltb, le-ltb, leb-true, le-leb, ne-eqb, eqb-false}
+use borrow.Author.Tests.{lt-ltb, le-ltb, leb-true, le-leb, ne-eqb, eqb-false}
 use Rattle.scan.specs.Lists.{all, isBetween, isDigit, isText}
 use Rattle.scan.specs.Text.{text, _&_, push}
-use Rattle.scan.proofs.Bools.{never, and-both, by-cases, by-test, Case as Test, is, isnt, case}
-use Rattle.digits.specs.Reading.{digitsIn, valueIn, digitOf, areDigits, spelled, hasLeadingZero}
+use Rattle.scan.proofs.Bools.{and-both, by-cases, Case as Test, is, isnt, case}
+use Rattle.digits.specs.Reading.{digitsIn, digitOf, areDigits, spelled, hasLeadingZero}
 use Rattle.digits.proofs.Positions.{valueFrom, digits-value, value-below}
 use Rattle.digits.proofs.Spelling.{digits-below}
 use Rattle.lines.specs.Lines.{lines}

@@ -1,6 +1,5 @@
 -- Answers by example, by computation. Assumes nothing.
 use mathlib.Core.Path.{_≡_, refl}
-use mathlib.Core.List.{[]}
 use Prim.Native.Nat.{ℕ}
 use Rattle.scan.specs.Text.{text, _&_}
 use Rattle.scan.specs.Found.{textAt}

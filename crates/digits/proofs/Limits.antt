@@ -18,10 +18,6 @@ abbrev pub Is-read : (ℕ → Type 0) → Read → Type 0
 Is-read P (Value v) = P v
 Is-read P Nothing = Unit {0}
 
-pub read-keeps : {P Q : ℕ → Type 0} → ((v : ℕ) → P v → Q v) → (r : Read) → Is-read P r → Is-read Q r
-read-keeps f (Value v) h = f v h
-read-keeps f Nothing h = tt
-
 -- a text of which a number is read: its digits, all of it, are as many and say as much as they may
 pub record AreDigits (base most limit : ℕ) (xs : List ℕ) : Type 0 where
   pub some : 1 ≤ length xs

@@ -36,7 +36,7 @@ use Rattle.answer.specs.Lines.{refusedLines, answerLines}
 use Rattle.answer.specs.Answers.{linesBy, linesOf, answerText}
 use Rattle.answer.specs.declared.Answer.{Answer}
 use Rattle.answer.specs.declared.Kind.the-variants as kind
-use Rattle.answer.proofs.Fits.{Is-small, answer-fits}
+use Rattle.answer.proofs.Fits.{answer-fits}
 use Rattle.steps.proofs.Telling.{asked-short, head-short}
 use Rattle.steps.specs.Steps.{ruleOf, isPassed, tableCase}
 use Rattle.steps.specs.Tests.{lacksSession, namesDead, isOutOfState, isAnothers, lacksPort}
