@@ -1,5 +1,5 @@
-// Numbers out of text: decimal and hexadecimal, read within limits, and where their digits stand. Every function has an answer for all bytes and numbers, looks at each byte at
-// most once and stops at the first that settles the answer.
+// Numbers out of text: decimal and hexadecimal, read within limits, and where their digits stand. Every function has an answer for all
+// bytes and numbers, looks at each byte at most once and stops at the first that settles the answer.
 ghost use mathlib.Core.Path.{_≡_};
 ghost use Prim.Native.Nat.{_+_, _*_, _<_};
 ghost use Rattle.digits.specs.Reading.{digitOf, readIn, hasLeadingZero, readNumber, atLeast, isValue, readHex8};

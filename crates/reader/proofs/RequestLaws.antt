@@ -30,7 +30,7 @@ use Rattle.reader.specs.Fields.{sessionOf, transportOf}
 use Rattle.reader.specs.Heads.{CseqSeen, cseqPlace, CseqIs, sessionIn, headText, sessionSeen, areTwice, Begun, Headed, Passing, uriStart, refusedRequest, RequestIs, isOther, isVersion, methodIn, areRepeated}
 use Rattle.aim.specs.Found.{AimIs}
 use Rattle.refusals.specs.Refusals.{isRead, readingRule}
-use Rattle.reader.specs.Request.{cseqDigits, cseqLimit, cseqOf, methodOf, uriOf, headRefusal, requestRefusal}
+use Rattle.reader.specs.Request.{cseqMost, cseqLimit, cseqOf, methodOf, uriOf, headRefusal, requestRefusal}
 use Rattle.refusals.specs.declared.Refusal.{Refusal}
 use Rattle.refusals.specs.declared.Refusal.the-variants.{Passed, Layout, CSeq, RequestLine, HeaderTwice, Version, Require, UriLong, UriForm, QueryUntaken, QueryForm, PidsClash, PidsUnstreamed, NoStream}
 use Rattle.refusals.specs.declared.Refusal.the-variants.{Method as OtherMethod, Value as Outside}
@@ -89,7 +89,7 @@ module _ {s : List ℕ} {seen : Seen} (q : CseqSeen s seen) where
   cseq-not-once n = cseq-none s (rw (q .whole, ne-eqb (length sent) 1 (λ e. n (q .values .times ∙ ap (λ k. min k 2) e))))
 
   module _ (h : seen .times ≡ 1) where
-    cseq-is : cseqOf s ≡ digitsRead 10 cseqDigits cseqLimit (firstValue sent)
+    cseq-is : cseqOf s ≡ digitsRead 10 cseqMost cseqLimit (firstValue sent)
     unfolding cseqOf
     cseq-is = rw (q .whole, eq-eqb (length sent) 1 (omega (arith, sym (q .values .times) ∙ h)))
 
@@ -97,18 +97,18 @@ module _ {s : List ℕ} {seen : Seen} (q : CseqSeen s seen) where
     value-is = text-held s (firstValue sent) place (q .values .value)
 
     -- the digits stand where the value stands, if it is a number
-    here : Test (isValue (readIn 10 cseqDigits cseqLimit (firstValue sent))) → digitsAt 10 cseqDigits cseqLimit s place ≡ cseqPlace s
+    here : Test (isValue (readIn 10 cseqMost cseqLimit (firstValue sent))) → digitsAt 10 cseqMost cseqLimit s place ≡ cseqPlace s
     here (is y) =
         let v = firstValue sent in
         let e : cseqOf s ≡ v = cseq-is ∙ rw y in
-        let n : isEmpty v ≡ false = some-text v (are-digits 10 cseqDigits cseqLimit v y .some) in
+        let n : isEmpty v ≡ false = some-text v (are-digits 10 cseqMost cseqLimit v y .some) in
         rw (value-is, y, e, n, ← q .starts, ← holds-length (q .values .value))
     here (isnt n) = let e : cseqOf s ≡ [] = cseq-is ∙ rw n in rw (value-is, n, e)
 
-    pub cseq-once : {r : Span} → Stands 10 cseqDigits cseqLimit s place r → CseqIs s r
+    pub cseq-once : {r : Span} → Stands 10 cseqMost cseqLimit s place r → CseqIs s r
     cseq-once {r} w =
         record {
-          is = w .is ∙ here (case (isValue (readIn 10 cseqDigits cseqLimit (firstValue sent))));
+          is = w .is ∙ here (case (isValue (readIn 10 cseqMost cseqLimit (firstValue sent))));
           held = rw (cseq-is, ← value-is) (w .holds);
         }
 

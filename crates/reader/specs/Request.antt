@@ -20,8 +20,8 @@ use Rattle.aim.specs.Aim.{uriRefusal, methodNumber}
 use Rattle.scan.specs.Lists.{_gives_or_}
 
 -- step 2: "1 to 10 digits up to 4294967295"
-abbrev pub cseqDigits : ℕ
-cseqDigits = 10
+abbrev pub cseqMost : ℕ
+cseqMost = 10
 
 abbrev pub cseqLimit : ℕ
 cseqLimit = 4294967295
@@ -30,7 +30,7 @@ cseqLimit = 4294967295
 unfoldable pub cseqOf : List ℕ → List ℕ
 cseqOf s =
     let vs = valuesOf 0 (headerLines s) in
-    cond (isLaidOut s) (cond (eqb (length vs) 1) (digitsRead 10 cseqDigits cseqLimit (getD vs 0 [])) []) []
+    cond (isLaidOut s) (cond (eqb (length vs) 1) (digitsRead 10 cseqMost cseqLimit (getD vs 0 [])) []) []
 
 -- a method by its word; "case counts"
 unfoldable pub methodOf : List ℕ → Method

@@ -29,7 +29,7 @@ use Rattle.aim.specs.declared.Method.the-variants.{Options, Setup, Play, Teardo
 use Rattle.refusals.specs.declared.Refusal.{Refusal}
 use Rattle.refusals.specs.declared.Refusal.the-variants as refusal
 use Rattle.reader.specs.Heads.{isOther, isVersion, RequestIs, areRepeated}
-use Rattle.reader.specs.Request.{methodOf, uriOf, cseqDigits, cseqLimit, cseqOf, headRefusal, requestRefusal}
+use Rattle.reader.specs.Request.{methodOf, uriOf, cseqMost, cseqLimit, cseqOf, headRefusal, requestRefusal}
 use Rattle.reader.specs.declared.Request.{Request}
 use Rattle.table.specs.declared.Session.{Session}
 use Rattle.answer.specs.Lines.{refusedLines, answerLines}
@@ -264,9 +264,9 @@ unfolding cseqOf
 cseq-short s =
     let vs = valuesOf 0 (headerLines s) in
     let v = firstValue vs in
-    cond-keeps Is-short (isLaidOut s) (cond (eqb (length vs) 1) (digitsRead 10 cseqDigits cseqLimit v) []) []
-    (λ _. cond-keeps Is-short (eqb (length vs) 1) (digitsRead 10 cseqDigits cseqLimit v) []
-    (λ _. cond-keeps Is-short (isValue (readIn 10 cseqDigits cseqLimit v)) v [] (λ y. omega (arith, are-digits 10 cseqDigits cseqLimit v y .few)) (λ _. omega arith))
+    cond-keeps Is-short (isLaidOut s) (cond (eqb (length vs) 1) (digitsRead 10 cseqMost cseqLimit v) []) []
+    (λ _. cond-keeps Is-short (eqb (length vs) 1) (digitsRead 10 cseqMost cseqLimit v) []
+    (λ _. cond-keeps Is-short (isValue (readIn 10 cseqMost cseqLimit v)) v [] (λ y. omega (arith, are-digits 10 cseqMost cseqLimit v y .few)) (λ _. omega arith))
     (λ _. omega arith))
     (λ _. omega arith)
 
