@@ -1,5 +1,5 @@
 -- A turn that is performed, from what the code set and wrote: it is what the turn means. Assumes nothing.
-use mathlib.Core.Path.{_≡_, refl, sym, _∙_, subst}
+use mathlib.Core.Path.{_≡_, refl, sym, _∙_, ap, subst}
 use native.Mathlib.Omega.{arith}
 use mathlib.Core.List.{List, append-nil}
 use Prim.Native.Nat.{ℕ, _+_, _-_, _≤_}
@@ -21,10 +21,9 @@ use Rattle.closings.specs.Closing.{restreamed, reseated, noting, closing}
 use Rattle.closings.specs.Does.{Does}
 use Rattle.serving.specs.Serving.{withSession}
 use Rattle.satbox.specs.Branches.{settled, Settable}
-use Rattle.serving.specs.Turns.{performed, Performable, deniedAs}
+use Rattle.serving.specs.Turns.{noTurn, performed, Performable}
 use Rattle.serving.specs.declared.Turn.{Turn}
-use Rattle.steps.specs.declared.cases.Case.the-variants.{Passed}
-use Rattle.serving.proofs.ServingLaws.{turn-denied}
+use Rattle.serving.proofs.ServingLaws.{turn-none}
 
 -- the stream of an ID is set, and none at 0
 pub row-set : (t : SatBox) {u : SatBox} (id : ℕ) (m : Stream) → (id ≡ 0 → ⊥)
@@ -116,11 +115,11 @@ pub settable-all : {t : SatBox} (x : Turn) → Performable t x → Settable t x
 settable-all x p = record { id = p .id; none = p .none; seats = p .seats }
 
 -- a refused call's turn changes nothing
-pub settled-idle : {x : Turn} {t r : SatBox} {j l : List ℕ} → length (t .sessions) ≡ 32 → x ≡ deniedAs Passed → Does t j (settled x t) r l → (r ≡ t) × (l ≡ j)
+pub settled-idle : {x : Turn} {t r : SatBox} {j l : List ℕ} → length (t .sessions) ≡ 32 → x ≡ noTurn → Does t j (settled x t) r l → (r ≡ t) × (l ≡ j)
 settled-idle {x} {t} {r} {j} {l} h e q =
     let n : x .kind ≡ 3 → ⊥ = λ z. let k : x .kind ≡ 0 = rw e in omega arith in
-    let d = subst (λ z. Does t j z r l) (turn-denied {c = Passed} h e refl .did) (performed-settles x n q) in
+    let d = subst (λ z. Does t j z r l) (ap (λ y. performed y t) e ∙ turn-none t h) (performed-settles x n q) in
     (d .satbox, d .journal ∙ written-none j (t .held))
 
-pub idle-can : {x : Turn} {t : SatBox} → x ≡ deniedAs Passed → Performable t x
+pub idle-can : {x : Turn} {t : SatBox} → x ≡ noTurn → Performable t x
 idle-can e = rw e (record { id = omega arith; none = λ _. refl; closes = λ h. absurd (omega arith); seats = λ h k. absurd (h refl) })

@@ -36,7 +36,7 @@ use Rattle.steps.specs.declared.cases.Case.the-variants.{Passed, Reading, NotRe
 use Rattle.steps.proofs.ReplyLaws.{Follows, follows-passed, follows-refused, isReading, unread-chain, table-unread, reply-told, Numbers, reply-fits}
 use Rattle.closings.specs.Does.{Does}
 use Rattle.closings.specs.Closing.{swept, sweeping, atClock, bytesOf}
-use Rattle.serving.specs.Serving.{Serving, merging, merges, mergeCase, isUnreached, isOpening, canSeat, caseOf, denied, grant, served, clientOf, answered}
+use Rattle.serving.specs.Serving.{Serving, merging, merges, mergeCase, isUnreached, isOpening, canSeat, caseOf, kept, denied, grant, served, clientOf, answered}
 use Rattle.serving.specs.Turns.{changeCase, performed, TurnIs}
 use Rattle.satbox.specs.Calls.{_else_andThen_, ifDone, requestOutcome, requested, answerOf, replied, repliedInto, repliedJournal}
 use Rattle.satbox.specs.Branches.{Responds}
@@ -100,8 +100,8 @@ module _ (s : List ℕ) (address draw : ℕ) (t : SatBox) (r : Request) (i : Req
       let a = askedOf (t .settings .frontends) s in
       let client = clientOf address draw a in
       cond-keeps (λ x. Follows r (x .case)) (reading.isRead (requestRefusal (t .settings .frontends) s))
-      (served t a (listsOf s) client) (denied t (Reading (requestRefusal (t .settings .frontends) s)))
-      (λ e. follows-passed (i .refusal ∙ passed-is _ e) (served-unread t a (listsOf s) client))
+      (served (kept a t) a (listsOf s) client) (denied t (Reading (requestRefusal (t .settings .frontends) s)))
+      (λ e. follows-passed (i .refusal ∙ passed-is _ e) (served-unread (kept a t) a (listsOf s) client))
       (λ n. follows-refused (ap Reading (sym (i .refusal))) (ap reading.isRead (i .refusal) ∙ n))
 
   module _ {b d : List ℕ} {v : Turn} {a : Answer} {n : ℕ}

@@ -3,9 +3,11 @@ pub mod OpeningKeeps
 pub mod RecordLaws
 pub mod Recorded
 pub mod Passing
+pub mod Kept
 pub mod ServingLaws
 pub mod Branching
 pub mod Ends
 pub mod Turns
 pub mod Looking
 pub mod Taken
+pub mod Turning

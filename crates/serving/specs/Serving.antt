@@ -114,9 +114,13 @@ caseOf t a l =
 unfoldable pub withSession : ℕ → Session → SatBox → SatBox
 withSession place s t = boxWith (set (t .sessions) place s) (t .streams) (t .held) (t .clock) (t .sequence) t
 
--- an OPTIONS sets "the last time to the clock"
 abbrev pub refreshed : ℕ → Session → Session
 refreshed clock s = sessionWith clock (s .port) (s .playing) s
+
+-- THE LAST TIME, order 3 of document 02: "every request that passes step 11 and names an open session sets its last time, also if a later step
+-- refuses it". Step 11 refuses none that names one
+unfoldable pub kept : Asked → SatBox → SatBox
+kept a t = let v = sightOf t a in cond (isNamed v) (withSession (v .place) (refreshed (t .clock) (v .session)) t) t
 
 -- the session after a SETUP or a PLAY that names it: "SETUP in a session replaces only the port"; PLAY "marks the session playing"
 abbrev pub seatAfter : Sight → Session
@@ -131,10 +135,6 @@ pub record Serving : Type 0 where
 
 abbrev pub granted : Did → Session → Serving
 granted d s = record { did = d; session = s; case = Passed }
-
--- a session that is named has its last time set; OPTIONS without one does nothing
-abbrev pub keeping : SatBox → Sight → Serving
-keeping t v = granted (when (isNamed v) (nothing (withSession (v .place) (refreshed (t .clock) (v .session)) t)) t) (v .session)
 
 -- "for the owner, merges the query"; "PLAY merges the owner's query and marks the session playing"
 abbrev pub retuned : SatBox → Asked → Lists → SatBox
@@ -152,13 +152,13 @@ seating t a l client =
 
 -- "TEARDOWN closes": cause 1
 abbrev pub grant : Method → SatBox → Asked → Lists → Client → Serving
-grant Options t a l client = keeping t (sightOf t a)
+grant Options t a l client = granted (nothing t) (sightOf t a .session)
 grant Setup t a l client = cond (isNamed (sightOf t a)) (retuning t a l) (seating t a l client)
 grant Play t a l client = retuning t a l
 grant Teardown t a l client = granted (closing 1 (sightOf t a .place) t) (sightOf t a .session)
 grant Other t a l client = granted (nothing t) noSession
 
--- "A status other than 200 changes nothing"
+-- "A status other than 200 changes nothing beyond the sweep"; by order 3 but for the last time, which is set in t before
 abbrev pub denied : SatBox → Case → Serving
 denied t case = record { did = nothing t; session = noSession; case = case }
 
@@ -170,9 +170,10 @@ served t a l client = cond (isPassed (caseOf t a l)) (grant (a .method) t a l cl
 abbrev pub clientOf : ℕ → ℕ → Asked → Client
 clientOf address draw a = record { address = address; port = portOf (a .transport); draw = draw }
 
--- steps 1 to 18, on a table that was swept
+-- steps 1 to 18, on a table that was swept: what steps 1 to 10 refuse sets no last time
 unfoldable pub answered : List ℕ → ℕ → ℕ → SatBox → Serving
 answered s address draw t =
+    let a = askedOf (t .settings .frontends) s in
     cond (reading.isRead (requestRefusal (t .settings .frontends) s))
-    (served t (askedOf (t .settings .frontends) s) (listsOf s) (clientOf address draw (askedOf (t .settings .frontends) s)))
+    (served (kept a t) a (listsOf s) (clientOf address draw a))
     (denied t (Reading (requestRefusal (t .settings .frontends) s)))

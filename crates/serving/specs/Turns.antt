@@ -32,7 +32,7 @@ use Rattle.steps.specs.declared.cases.Case.{Case}
 use Rattle.steps.specs.declared.cases.Case.the-variants.{Passed, Combination, TooManyPids, NotReached, Full, Reading}
 use Rattle.closings.specs.Closing.{Did, nothing, restreamed, noting, closing}
 use Rattle.closings.specs.Does.{Closable}
-use Rattle.serving.specs.Serving.{hasPlace, hasRoom, guest, canOpen, Serving, sourceOf, feedOf, merging, merges, mergeCase, isUnreached, isOpening, canSeat, withSession, refreshed, seatAfter}
+use Rattle.serving.specs.Serving.{hasPlace, hasRoom, guest, canOpen, Serving, sourceOf, feedOf, merging, merges, mergeCase, isUnreached, isOpening, canSeat, withSession, seatAfter}
 use Rattle.serving.specs.declared.opening.Client.{Client}
 use Rattle.serving.specs.declared.opening.Offer.{Offer}
 use Rattle.serving.specs.declared.Turn.{Turn}
@@ -95,10 +95,14 @@ abbrev pub offerOf : SatBox → Sight → Client → Offer
 offerOf t v client =
     cond (eqb (v .stream) 0) (newOffer t (sourceOf v) (isSmall (feedOf t v)) client) (liveOffer t (isSmall (v .stream)) (v .frontend) client)
 
--- TURNS: a refusal; a session changed in its place; one whose stream is set too; one that opens, where nothing is lacking; one that closes
-abbrev pub deniedAs : Case → Turn
-deniedAs case =
-    record { stream = noStream; seat = noSession; session = noSession; place = 32; id = 0; kind = 0; case = case }
+-- TURNS: none, of a call that is refused; a refusal, with the session that it names; a session changed in its place; one whose stream is set too; one
+-- that opens, where nothing is lacking; one that closes
+abbrev pub noTurn : Turn
+noTurn = record { stream = noStream; seat = noSession; session = noSession; place = 32; id = 0; kind = 0; case = Passed }
+
+abbrev pub deniedAs : Sight → Case → Turn
+deniedAs v case =
+    record { stream = noStream; seat = v .session; session = noSession; place = v .place; id = 0; kind = 0; case = case }
 
 abbrev pub reseatedAs : ℕ → Session → Session → Turn
 reseatedAs place seat session =
@@ -112,42 +116,42 @@ abbrev pub openedAs : Offer → ℕ → ℕ → Stream → Turn
 openedAs o kind id m =
     record { stream = m; seat = o .seat; session = o .seat; place = o .place; id = id; kind = kind; case = Passed }
 
-abbrev pub seatedAs : Offer → ℕ → ℕ → Stream → Turn
-seatedAs o kind id m = cond (o .whole) (openedAs o kind id m) (deniedAs Full)
+abbrev pub seatedAs : Sight → Offer → ℕ → ℕ → Stream → Turn
+seatedAs v o kind id m = cond (o .whole) (openedAs o kind id m) (deniedAs v Full)
 
 abbrev pub leftAs : Sight → Turn
 leftAs v =
     record { stream = noStream; seat = noSession; session = v .session; place = v .place; id = 0; kind = 3; case = Passed }
 
 -- a turn that rests on a merged query
-abbrev pub ifMerged : Outcome → Turn → Turn
-ifMerged Merged x = x
-ifMerged Clash x = deniedAs Combination
-ifMerged TooMany x = deniedAs TooManyPids
+abbrev pub ifMerged : Sight → Outcome → Turn → Turn
+ifMerged v Merged x = x
+ifMerged v Clash x = deniedAs v Combination
+ifMerged v TooMany x = deniedAs v TooManyPids
 
 -- a SETUP for a new stream, and a SETUP or a PLAY of an open session, where c is what its query was merged to
-unfoldable pub openedBy : Change → Offer → Turn
-openedBy c o = ifMerged (c .outcome) (seatedAs o 1 (o .seat .stream) (c .stream))
+unfoldable pub openedBy : Sight → Change → Offer → Turn
+openedBy v c o = ifMerged v (c .outcome) (seatedAs v o 1 (o .seat .stream) (c .stream))
 
 unfoldable pub retunedBy : Sight → Change → Turn
 retunedBy v c =
     cond (owns (v .stream) (v .session))
-    (ifMerged (c .outcome) (cond (isUnreached v) (deniedAs NotReached) (retunedAs v (c .stream))))
+    (ifMerged v (c .outcome) (cond (isUnreached v) (deniedAs v NotReached) (retunedAs v (c .stream))))
     (reseatedAs (v .place) (seatAfter v) (seatAfter v))
 
 unfoldable pub setUpBy : Sight → Change → Offer → Turn
-setUpBy v c o = cond (isNamed v) (retunedBy v c) (cond (eqb (v .stream) 0) (openedBy c o) (seatedAs o 2 0 noStream))
+setUpBy v c o = cond (isNamed v) (retunedBy v c) (cond (eqb (v .stream) 0) (openedBy v c o) (seatedAs v o 2 0 noStream))
 
-abbrev pub methodTurn : Method → Sight → Change → Offer → ℕ → Turn
-methodTurn Options v c o clock = reseatedAs (v .place) (refreshed clock (v .session)) (v .session)
-methodTurn Setup v c o clock = setUpBy v c o
-methodTurn Play v c o clock = retunedBy v c
-methodTurn Teardown v c o clock = leftAs v
-methodTurn Other v c o clock = deniedAs Passed
+abbrev pub methodTurn : Method → Sight → Change → Offer → Turn
+methodTurn Options v c o = reseatedAs (v .place) (v .session) (v .session)
+methodTurn Setup v c o = setUpBy v c o
+methodTurn Play v c o = retunedBy v c
+methodTurn Teardown v c o = leftAs v
+methodTurn Other v c o = deniedAs v Passed
 
 -- THE TURN of a request that steps 1 to 15 let through or refused
-unfoldable pub turnBy : Sight → Change → Offer → Case → ℕ → Turn
-turnBy v c o case clock = cond (isPassed case) (methodTurn (v .method) v c o clock) (deniedAs case)
+unfoldable pub turnBy : Sight → Change → Offer → Case → Turn
+turnBy v c o case = cond (isPassed case) (methodTurn (v .method) v c o) (deniedAs v case)
 
 -- what a turn does: kind 3 closes; else the stream is set, and then the session in its place, with a record where there is a kind
 abbrev pub seated : Turn → SatBox → Did

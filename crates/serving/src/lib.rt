@@ -6,7 +6,7 @@ pub use opening::Client;
 pub use opening::Offer;
 pub use opening::offer_of;
 ghost use mathlib.Core.Path.{_≡_};
-ghost use Rattle.serving.specs.Serving.{isUnreached, refreshed, seatAfter};
+ghost use Rattle.serving.specs.Serving.{isUnreached, seatAfter};
 ghost use Rattle.serving.specs.Turns.{atPort, playing, deniedAs, reseatedAs, seatedAs, leftAs, openedBy, retunedBy, setUpBy, turnBy};
 use aim::Method;
 use steps::Case;
@@ -29,14 +29,29 @@ pub struct Turn {
     pub case: Case,
 }
 
-pub fn deny(case: Case) -> Turn
-    ensures { λ r. ⌜ r ≡ deniedAs case ⌝ }
-{
-    Turn {
+impl Turn {
+    // What a call comes to that is refused.
+    pub const NONE: Turn = Turn {
         stream: Stream::NONE,
         seat: Session::NONE,
         session: Session::NONE,
         place: SatBox::SESSIONS,
+        id: 0,
+        kind: 0,
+        case: Case::Passed,
+    };
+}
+
+// A refusal: the session that the request names, if any, keeps its place.
+fn deny(v: Sight, case: Case) -> Turn
+    ensures { λ r. ⌜ r ≡ deniedAs v case ⌝ }
+{
+    let seat = v.session;
+    Turn {
+        stream: Stream::NONE,
+        seat,
+        session: Session::NONE,
+        place: v.place,
         id: 0,
         kind: 0,
         case,
@@ -59,11 +74,11 @@ fn reseat(place: usize, seat: Session, session: Session) -> Turn
 }
 
 // A session that opens, on a new stream of an ID or, at ID 0, on one that is live.
-fn seat(o: Offer, kind: u8, id: u32, m: Stream) -> Turn
-    ensures { λ r. ⌜ r ≡ seatedAs o kind id m ⌝ }
+fn seat(v: Sight, o: Offer, kind: u8, id: u32, m: Stream) -> Turn
+    ensures { λ r. ⌜ r ≡ seatedAs v o kind id m ⌝ }
 {
     if !o.whole {
-        return deny(Case::Full);
+        return deny(v, Case::Full);
     }
     let s = o.seat;
     Turn {
@@ -78,15 +93,15 @@ fn seat(o: Offer, kind: u8, id: u32, m: Stream) -> Turn
 }
 
 // A SETUP for a new stream.
-fn open_stream(change: Change, o: Offer) -> Turn
-    ensures { λ x. ⌜ x ≡ openedBy change o ⌝ }
+fn open_stream(v: Sight, change: Change, o: Offer) -> Turn
+    ensures { λ x. ⌜ x ≡ openedBy v change o ⌝ }
 {
     let outcome = change.outcome;
     let session = o.seat;
     match outcome {
-        Outcome::Combination => deny(Case::Combination),
-        Outcome::TooMany => deny(Case::TooManyPids),
-        Outcome::Merged => seat(o, 1, session.stream as u32, change.stream),
+        Outcome::Combination => deny(v, Case::Combination),
+        Outcome::TooMany => deny(v, Case::TooManyPids),
+        Outcome::Merged => seat(v, o, 1, session.stream as u32, change.stream),
     }
 }
 
@@ -139,11 +154,11 @@ fn retune(v: Sight, change: Change) -> Turn
     }
     let outcome = change.outcome;
     match outcome {
-        Outcome::Combination => deny(Case::Combination),
-        Outcome::TooMany => deny(Case::TooManyPids),
+        Outcome::Combination => deny(v, Case::Combination),
+        Outcome::TooMany => deny(v, Case::TooManyPids),
         Outcome::Merged => {
             if is_unreached(v) {
-                return deny(Case::NotReached);
+                return deny(v, Case::NotReached);
             }
             let stream = change.stream;
             Turn {
@@ -157,22 +172,6 @@ fn retune(v: Sight, change: Change) -> Turn
             }
         }
     }
-}
-
-fn refresh(s: Session, clock: u32) -> Session
-    ensures { λ r. ⌜ r ≡ refreshed clock s ⌝ }
-{
-    let mut u = s;
-    u.last = clock;
-    u
-}
-
-// An OPTIONS: a session that it names has its last time set.
-fn keep(v: Sight, clock: u32) -> Turn
-    ensures { λ r. ⌜ r ≡ reseatedAs (v .place) (refreshed clock (v .session)) (v .session) ⌝ }
-{
-    let session = v.session;
-    reseat(v.place, refresh(session, clock), session)
 }
 
 // A TEARDOWN.
@@ -199,24 +198,25 @@ fn set_up(v: Sight, change: Change, o: Offer) -> Turn
         return retune(v, change);
     }
     if v.stream == 0 {
-        return open_stream(change, o);
+        return open_stream(v, change, o);
     }
-    seat(o, 2, 0, Stream::NONE)
+    seat(v, o, 2, 0, Stream::NONE)
 }
 
 // What a request comes to: `change` is what its query was merged to, o what an opening would take.
-pub fn turn_of(v: Sight, change: Change, o: Offer, case: Case, clock: u32) -> Turn
-    ensures { λ x. ⌜ x ≡ turnBy v change o case clock ⌝ }
+pub fn turn_of(v: Sight, change: Change, o: Offer, case: Case) -> Turn
+    ensures { λ x. ⌜ x ≡ turnBy v change o case ⌝ }
 {
     if !steps::is_passed(case) {
-        return deny(case);
+        return deny(v, case);
     }
     let method = v.method;
+    let session = v.session;
     match method {
-        Method::Options => keep(v, clock),
+        Method::Options => reseat(v.place, session, session),
         Method::Setup => set_up(v, change, o),
         Method::Play => retune(v, change),
         Method::Teardown => leave(v),
-        Method::Other => deny(Case::Passed),
+        Method::Other => deny(v, Case::Passed),
     }
 }
