@@ -114,9 +114,9 @@ static void evening(void)
     ask(20, 0x00000000u, "PLAY rtsp://10.0.0.5/stream=1?freq=12187.5&pol=h&pids=0,17,120 RTSP/1.0\r\nCSeq: 3\r\nSession: 2A5F00C1\r\n\r\n");
     /* OPTIONS keeps the owner's session alive */
     ask(50, 0x00000000u, "OPTIONS rtsp://10.0.0.5/ RTSP/1.0\r\nCSeq: 4\r\nSession: 2A5F00C1\r\n\r\n");
-    tick(64);
-    /* 60 seconds after its last time the joiner is closed */
     tick(65);
+    /* 60 seconds after its last time, that of the PLAY that was refused, the joiner is closed */
+    tick(66);
     ask(70, 0x00000000u, "PLAY rtsp://10.0.0.5/stream=1 RTSP/1.0\r\nCSeq: 3\r\nSession: 93D4417E\r\n\r\n");
     /* a clock set back changes nothing */
     tick(10);

@@ -245,6 +245,52 @@ static bool print_cseq(void)
     return print_rows(rows, sizeof rows / sizeof *rows);
 }
 
+/* One line of the table of last times, by method but the last, "other"; `methods` are those it has, a bit for each. */
+static bool print_methods(const char *name, const unsigned long *times, unsigned methods)
+{
+    bool whole = true;
+    printf("%-19s", name);
+    for (size_t method = 0; method < METHODS - 1; method++) {
+        printf(" %10lu", times[method]);
+        whole &= (methods >> method & 1) == (times[method] > 0);
+    }
+    printf("%s\n", whole ? "" : "  NOT AS IN THE PAPER");
+    return whole;
+}
+
+/* Which requests set the last time of the session that they name, and which refusals leave it. */
+static bool print_keeping(void)
+{
+    const struct reached_keeping *keeping = &reached.keeping;
+    const struct row rows[] = {
+        {"last times left by 501", keeping->left[501][METHODS - 1]},
+        {"set by 455 for another's stream", keeping->another}, {"for no stream", keeping->none},
+        {"for a SETUP while it plays", keeping->plays}, {"for another frontend", keeping->fe},
+        {"set by 503 for PIDs", keeping->pids}, {"for a src", keeping->src},
+        {"set to the stored clock", keeping->stored}, {"set in a call that closed another", keeping->closing},
+        {"set at the age of 59", keeping->last_second}, {"454 at the age of 60", keeping->too_late},
+        {"454 for a joiner whose owner was swept", keeping->orphaned},
+        {"joiners kept and closed with their owner", keeping->with_owner},
+        {"PLAY where OPTIONS alone had not kept it", keeping->play}, {"refusals where it had not", keeping->refused}
+    };
+    bool all = true;
+    printf("%-19s %10s %10s %10s %10s\n", "last times", "OPTIONS", "SETUP", "PLAY", "TEARDOWN");
+    all &= print_methods("set by 200", keeping->set[200], 0x7);
+    all &= print_methods("by 404", keeping->set[404], 0xE);
+    all &= print_methods("by 455", keeping->set[455], 0xE);
+    all &= print_methods("by 403 of step 14", keeping->joiners, 0x6);
+    all &= print_methods("by 461", keeping->set[461], 0x2);
+    all &= print_methods("by 403 of step 16", keeping->set[403], 0x6);
+    all &= print_methods("by 503 of step 17", keeping->set[503], 0x6);
+    all &= print_methods("left by 400", keeping->left[400], 0xF);
+    all &= print_methods("by 505", keeping->left[505], 0xF);
+    all &= print_methods("by 551", keeping->left[551], 0xF);
+    all &= print_methods("by 414", keeping->left[414], 0xF);
+    all &= print_methods("by 403 of step 9", keeping->left[403], 0x6);
+    all &= print_methods("by 405", keeping->left[405], 0xE);
+    return print_rows(rows, sizeof rows / sizeof *rows) && all;
+}
+
 static bool print_rest(void)
 {
     const struct row rows[] = {
@@ -265,6 +311,7 @@ static bool print_reached(void)
     all &= print_rest();
     all &= print_sets();
     all &= print_cseq();
+    all &= print_keeping();
     return all;
 }
 

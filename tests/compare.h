@@ -84,6 +84,21 @@ struct reached_cseq {
     unsigned long longer, large;              /* 400 for nothing but digits past ten, or ten past 4294967295 */
 };
 
+/* Whose last time was set, order 3 of document 02. It was set, or could have been, to a later clock. */
+struct reached_keeping {
+    unsigned long set[STATUSES][METHODS];     /* by status; 403 of step 16 */
+    unsigned long joiners[METHODS];           /* 403 of step 14 */
+    unsigned long left[STATUSES][METHODS];    /* not set: refused in steps 1 to 10, though Session names an open one */
+    unsigned long another, none, plays, fe;   /* set by a 455: its stream is another's, it has none, and so on */
+    unsigned long pids, src;                  /* set by a 503, for PIDs or a src */
+    unsigned long stored;                     /* set to the stored clock, past the given one */
+    unsigned long closing;                    /* set by a call that closed another */
+    unsigned long last_second, too_late;      /* set at the age of 59; 454 at 60 */
+    unsigned long orphaned;                   /* 454 below 60, for a joiner whose owner the sweep closed */
+    unsigned long with_owner;                 /* joiners kept, and below 60, that closed with an owner past its time */
+    unsigned long play, refused;              /* PLAY and refusals in a session that OPTIONS alone had not kept */
+};
+
 /* How often what was reached. */
 struct reached {
     unsigned long calls[KINDS][REFUSALS];     /* by kind and refusal, 0 if done */
@@ -100,6 +115,7 @@ struct reached {
     unsigned long tables_good, tables_bad;    /* changed by hand, and taken or refused by the next call */
     struct reached_sets sets;
     struct reached_cseq cseq;
+    struct reached_keeping keeping;
 };
 
 /* compare_both.c */

@@ -38,8 +38,8 @@ uint64_t any_of(const uint64_t *list, size_t count)
     return list[below(count)];
 }
 
-/* How a stretch of a sequence goes. */
-enum mood { CROWD, EVENING, HURRY, HOSTILE, MOODS };
+/* How a stretch of a sequence goes. In ZAPPING the sets send PLAY and no OPTIONS, up to a minute apart. */
+enum mood { CROWD, EVENING, HURRY, ZAPPING, HOSTILE, MOODS };
 
 static enum mood mood;
 static unsigned altered;  /* calls still to make on a table changed by hand, then it is restored or kept */
@@ -51,8 +51,15 @@ static const unsigned char errands[MOODS][ERRANDS] = {
     [CROWD] = {4, 9, 1, 1, 1, 0},
     [EVENING] = {3, 2, 2, 4, 3, 2},
     [HURRY] = {4, 4, 1, 2, 4, 1},
+    [ZAPPING] = {2, 2, 2, 9, 0, 1},
     [HOSTILE] = {3, 2, 3, 4, 2, 2}
 };
+
+/* A mood; a crowd takes its time to gather, and comes twice as often. */
+static enum mood some_mood(void)
+{
+    return (enum mood)(below(MOODS + 1) % MOODS);
+}
 
 static enum errand some_errand(void)
 {
@@ -79,6 +86,8 @@ static uint32_t some_clock(const struct plain_box *box)
         return (uint32_t)(box->clock - below(70));
     if (once_in(mood == HURRY ? 6 : mood == CROWD ? 300 : 40))
         return later(box->clock, 59 + below(3));
+    if (mood == ZAPPING && once_in(2))
+        return later(box->clock, 10 + below(50));
     if (once_in(100))
         return (uint32_t)ANY_OF(0, 1, 59, 60, 61);
     if (once_in(3000))
@@ -278,7 +287,7 @@ static bool taken(const struct plain_box *box)
 void first_call(struct call *call)
 {
     choose_make(call, 12);
-    mood = (enum mood)below(MOODS);
+    mood = some_mood();
     altered = 0;
     late = once_in(12);
 }
@@ -289,7 +298,7 @@ enum { SAVED = 1000 };
 void next_call(struct call *call, const struct plain_box *box)
 {
     if (once_in(40))
-        mood = (enum mood)below(MOODS);
+        mood = some_mood();
     if (altered >= SAVED) {
         choose_poke(call, box);
         altered = once_in(4) ? altered : 1 + (unsigned)below(3);

@@ -1,6 +1,6 @@
 /*
  * Counts what the calls reached: refusals, statuses, records, tables changed by hand, what the frontends' sets decide,
- * and how CSeq came back.
+ * how CSeq came back, and whose last time was set.
  */
 #include "compare.h"
 
@@ -23,13 +23,19 @@ static unsigned status_of(const uint8_t *answer)
     return (answer[9] - '0') * 100u + (answer[10] - '0') * 10u + (answer[11] - '0') * 1u;
 }
 
-static bool has(const struct call *call, const char *text)
+/* The place behind a text in a request; 0 if it has none. */
+static size_t behind(const struct call *call, const char *text)
 {
     const size_t length = strlen(text);
     for (size_t at = 0; at + length <= call->length; at++)
         if (memcmp(call->bytes + at, text, length) == 0)
-            return true;
-    return false;
+            return at + length;
+    return 0;
+}
+
+static bool has(const struct call *call, const char *text)
+{
+    return behind(call, text) != 0;
 }
 
 static bool names_frontend(const struct call *call)
@@ -152,13 +158,7 @@ static void count_changed_src(void)
     }
 }
 
-/* How CSeq came back. */
-
-/* The digits of the first CSeq header of a request: where they start, how many, and whether there are more spaces. */
-struct digits {
-    size_t place, count;
-    bool spaced;
-};
+/* Headers. */
 
 /* The first place, from this one on, whose byte is not one of these. */
 static size_t past(const struct call *call, size_t place, uint8_t low, uint8_t high)
@@ -168,14 +168,28 @@ static size_t past(const struct call *call, size_t place, uint8_t low, uint8_t h
     return place;
 }
 
-static struct digits digits_in(const struct call *call)
+/* Where the value of the first header of a name starts, the name in small and in capital letters; the end if none. */
+static size_t value_of(const struct call *call, const char *lower, const char *upper)
 {
-    static const char lower[] = "\ncseq:", upper[] = "\nCSEQ:";
     size_t value = 0, same = 0;
     for (; value < call->length && lower[same] != '\0'; value++) {
         const uint8_t byte = call->bytes[value];
         same = byte == lower[same] || byte == upper[same] ? same + 1 : byte == '\n';
     }
+    return value;
+}
+
+/* How CSeq came back. */
+
+/* The digits of the first CSeq header of a request: where they start, how many, and whether there are more spaces. */
+struct digits {
+    size_t place, count;
+    bool spaced;
+};
+
+static struct digits digits_in(const struct call *call)
+{
+    const size_t value = value_of(call, "\ncseq:", "\nCSEQ:");
     const size_t place = past(call, value, ' ', ' '), end = past(call, place, '0', '9');
     return (struct digits){place, end - place, place - value > 1 || past(call, end, ' ', ' ') > end};
 }
@@ -216,6 +230,139 @@ static void count_refused(const struct call *call)
     reached.cseq.large += digits.count == 10;
 }
 
+/* Whose last time was set. */
+
+/* By place: the session that was kept last, its last time since, and the one it had if OPTIONS alone set it. */
+static struct {
+    uint32_t number, last, before;
+} heard[PLAIN_SESSIONS];
+
+/* The number that the first Session header says; 0 if it is none. */
+static uint32_t number_sent(const struct call *call)
+{
+    static const char digits[] = "0123456789abcdef";
+    size_t at = past(call, value_of(call, "\nsession:", "\nSESSION:"), ' ', ' ');
+    uint32_t number = 0;
+    for (const size_t end = at + 8; at < end; at++) {
+        const char *digit = at < call->length ? strchr(digits, call->bytes[at] | 32) : NULL;
+        if (digit == NULL)
+            return 0;
+        number = number << 4 | (uint32_t)(digit - digits);
+    }
+    const size_t end = past(call, at, ' ', ' ');
+    const uint8_t byte = end < call->length ? call->bytes[end] : 0;
+    return byte == '\r' || (byte == ';' && end == at) ? number : 0;
+}
+
+/* The open session of a number in a table, NULL if there is none. */
+static const struct plain_session *open_session(const struct plain_box *box, uint32_t number)
+{
+    for (size_t i = 0; number != 0 && i < PLAIN_SESSIONS; i++)
+        if (box->sessions[i].number == number)
+            return &box->sessions[i];
+    return NULL;
+}
+
+/* The table before the call, as its sweep left it. */
+static struct plain_box swept_before(const struct call *call)
+{
+    static uint8_t journal[JOURNAL_ROOM];
+    struct plain_box box = box_before;
+    plain_tick(&box, (uint32_t)call->numbers[0], journal, box.settings.size);
+    return box;
+}
+
+/* Why a 455 was given. The stream that is named is live, since step 12 passed. */
+static void count_wrong_state(const struct call *call, const struct plain_session *session)
+{
+    struct reached_keeping *keeping = &reached.keeping;
+    const size_t stream = behind(call, "/stream=");
+    if (stream == 0)
+        keeping->none++;
+    else if (call->bytes[stream] != '0' + session->stream)
+        keeping->another++;
+    else if (call->bytes[0] == 'S' && session->playing)
+        keeping->plays++;
+    else
+        keeping->fe++;
+}
+
+/* Was the session kept that OPTIONS alone had not kept? */
+static void count_outlived(const struct call *call, const struct plain_session *session, size_t place, unsigned status)
+{
+    const uint32_t clock = plain.box.clock;
+    if (heard[place].number != session->number || heard[place].last != session->last)
+        heard[place].before = session->last;
+    if (clock - heard[place].before >= PLAIN_TIMEOUT) {
+        reached.keeping.play += status == 200 && call->bytes[0] == 'P';
+        reached.keeping.refused += status != 200;
+    }
+    heard[place].number = session->number;
+    heard[place].last = clock;
+    if (call->bytes[0] == 'O')
+        heard[place].before = clock;
+}
+
+/* A session, as the sweep left it, whose last time was set. */
+static void count_set(const struct call *call, const struct plain_session *session, size_t place, unsigned status)
+{
+    struct reached_keeping *keeping = &reached.keeping;
+    const size_t method = method_of(call);
+    if (status == 403 && !session->owner)
+        keeping->joiners[method]++;
+    else
+        keeping->set[status][method]++;
+    if (status == 455)
+        count_wrong_state(call, session);
+    if (status == 503) {
+        const bool pids = status_of(answer_of(all_reaching(), call)) == 503;
+        keeping->pids += pids;
+        keeping->src += !pids;
+    }
+    keeping->stored += (uint32_t)call->numbers[0] < plain.box.clock;
+    keeping->closing += plain.box.held > box_before.held;
+    keeping->last_second += plain.box.clock - session->last == PLAIN_TIMEOUT - 1;
+    count_outlived(call, session, place, status);
+}
+
+/* No last time was set, though the request says the number of a session that is open, or was before the sweep. */
+static void count_left(const struct call *call, const struct plain_box *swept, unsigned status)
+{
+    struct reached_keeping *keeping = &reached.keeping;
+    const uint32_t number = number_sent(call), clock = plain.box.clock;
+    const struct plain_session *session = open_session(swept, number), *before = open_session(&box_before, number);
+    if (session != NULL && session->last < clock && status != 200)
+        keeping->left[status][method_of(call)]++;
+    if (session == NULL && before != NULL && status == 454) {
+        keeping->too_late += clock - before->last == PLAIN_TIMEOUT;
+        keeping->orphaned += clock - before->last < PLAIN_TIMEOUT;
+    }
+}
+
+static void count_keeping(const struct call *call, unsigned status)
+{
+    const struct plain_box swept = swept_before(call);
+    size_t place = 0;
+    while (place < PLAIN_SESSIONS && (swept.sessions[place].number == 0
+                                      || plain.box.sessions[place].number != swept.sessions[place].number
+                                      || plain.box.sessions[place].last == swept.sessions[place].last))
+        place++;
+    if (place < PLAIN_SESSIONS)
+        count_set(call, &swept.sessions[place], place, status);
+    else
+        count_left(call, &swept, status);
+}
+
+/* A session closed with its owner, whose time was out: had it been kept since its opening? */
+static void count_with_owner(const struct plain_record *record)
+{
+    for (size_t i = 0; i < PLAIN_SESSIONS; i++) {
+        const struct plain_session *session = &box_before.sessions[i];
+        if (session->number == record->session && heard[i].number == session->number && heard[i].last == session->last)
+            reached.keeping.with_owner += plain.box.clock - session->last < PLAIN_TIMEOUT;
+    }
+}
+
 /* The rest. */
 
 static void count_status(const struct call *call)
@@ -231,6 +378,7 @@ static void count_status(const struct call *call)
         count_refused(call);
     else
         count_copied(call, status);
+    count_keeping(call, status);
     if (status != 503)
         return;
     count_out_of_reach(call);
@@ -242,7 +390,7 @@ static void count_status(const struct call *call)
 /* Counts the records the call wrote. */
 static void count_records(const struct call *call)
 {
-    bool cascade = false;
+    bool cascade = false, timed_out = false;
     for (uint32_t at = box_before.held; at < plain.box.held; at += PLAIN_RECORD_BYTES) {
         struct plain_record record;
         if (plain_read_record(plain.journal + at, PLAIN_RECORD_BYTES, 0, &record) != PLAIN_DONE)
@@ -254,6 +402,10 @@ static void count_records(const struct call *call)
         reached.closed[record.cause] += record.kind == 3;
         reached.number_taken += record.kind < 3 && record.session != (uint32_t)call->numbers[2];
         cascade |= record.cause == 3;
+        if (record.cause != 3)
+            timed_out = record.cause == 2;
+        else if (timed_out)
+            count_with_owner(&record);
     }
     reached.cascades += cascade;
     reached.full_journals += plain.box.held > box_before.held && plain.box.held == plain.box.settings.size;
@@ -265,8 +417,10 @@ void count_reached(const struct call *call)
     uint32_t refusal = plain.outcome.refusal;
     bool judges = call->kind == REQUEST || call->kind == TICK || call->kind == COLLECT || call->kind == ORDER;
     reached.calls[call->kind][refusal < REFUSALS ? refusal : 0]++;
-    if (call->kind == MAKE)
+    if (call->kind == MAKE) {
         count_making(call);
+        memset(heard, 0, sizeof heard);
+    }
     if (call->kind == REQUEST && refusal == 0) {
         count_status(call);
         count_changed_src();

@@ -46,16 +46,18 @@ static void put_name(const char *name)
     }
 }
 
-/* An open session, or NULL if there is none. */
+/* An open session, at times the one that was silent for the longest time; NULL if there is none. */
 static const struct plain_session *some_session(void)
 {
-    size_t start = below(PLAIN_SESSIONS);
+    const struct plain_session *chosen = NULL;
+    const size_t start = below(PLAIN_SESSIONS);
+    const bool oldest = once_in(3);
     for (size_t i = 0; i < PLAIN_SESSIONS; i++) {
         const struct plain_session *session = &table->sessions[(start + i) % PLAIN_SESSIONS];
-        if (session->number != 0)
-            return session;
+        if (session->number != 0 && (chosen == NULL || (oldest && session->last < chosen->last)))
+            chosen = session;
     }
-    return NULL;
+    return chosen;
 }
 
 /* Headers. */

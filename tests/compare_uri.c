@@ -195,7 +195,7 @@ static void put_stream(const struct plain_session *session)
     if (once_in(SPOIL))
         return;
     put("stream=");
-    put_number(session != NULL && !once_in(SPOIL) ? session->stream
+    put_number(session != NULL && !once_in(SPOIL / 2) ? session->stream
                : once_in(SPOIL) ? 1 + below(12) : some_stream());
 }
 

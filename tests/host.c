@@ -405,7 +405,10 @@ static void damage(const char *file, long at)
     CHECK(fclose(f) == 0);
 }
 
-/* A stop and a start with a kept box: sessions, clock and sequence go on. A kept box is taken up once, and a damaged one not at all. */
+/*
+ * A stop and a start with a kept box: sessions, clock and sequence go on, and a PLAY keeps its session. A kept box is taken up once, and a
+ * damaged one not at all.
+ */
 static void restart(const char *const *words)
 {
     int television = dial(2);
@@ -427,6 +430,7 @@ static void restart(const char *const *words)
     television = dial(2);
     move(59, NULL);
     CHECK(status_is(ask_play(television, 1, "", session), "200"));
+    move(59, NULL);
     move(1, "frontend 1: off");
     note(3, 2, session, 1, 1);
     CHECK(status_is(ask_play(television, 1, "", session), "454"));

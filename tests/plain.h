@@ -1,5 +1,5 @@
 /*
- * Document 01 with orders 1 and 2 of document 02 in plain C: the calls of the box as a firmware would make them. A
+ * Document 01 with orders 1 to 3 of document 02 in plain C: the calls of the box as a firmware would make them. A
  * second implementation, written from the papers alone, so that the first one can be compared with it call by call
  * and field by field.
  */
@@ -44,7 +44,7 @@ enum plain_refusal {
 struct plain_session {
     uint32_t number;   /* the session number */
     uint32_t address;  /* the client's IPv4 address from the opening, highest octet first */
-    uint32_t last;     /* the last time */
+    uint32_t last;     /* the last time: of the opening, or of the last request past step 11 that named it */
     uint32_t port;     /* the client's port, a of client_port=a-b */
     uint8_t stream;    /* the ID of its stream */
     uint8_t owner;     /* 1: owns that stream, 0: joined it */

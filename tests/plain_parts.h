@@ -127,7 +127,10 @@ bool plain_take_pid(struct text *list, uint16_t *pid);
 
 /* plain_turn.c */
 
-/* Steps 10 to 18. A 200 is carried out and gives the session its answer tells of, unused if there is none. */
+/*
+ * Steps 10 to 18. From step 12 on the last time of the session that is named is set, whatever the status. A 200 is
+ * carried out and gives the session its answer tells of, unused if there is none.
+ */
 enum status plain_take_turn(struct plain_box *box, const struct reading *reading, uint32_t address,
                             uint32_t draw, uint8_t *journal, struct plain_session *session);
 

@@ -1,6 +1,6 @@
 /*
- * Tests of the plain box: document 01's example and P1 to P11, EDGES.md section by section (reading A), orders 1 and
- * 2 of document 02, every status, refusals 1 to 8 with all that stays, and a long evening of chance requests. Runs
+ * Tests of the plain box: document 01's example and P1 to P11, EDGES.md section by section (reading A), orders 1 to
+ * 3 of document 02, every status, refusals 1 to 8 with all that stays, and a long evening of chance requests. Runs
  * the tests of the other files in turn and counts their checks. Ends with 1 and the lines if a check fails.
  */
 #include "plain_test.h"
@@ -37,6 +37,7 @@ int main(void)
     test_steps();
     test_reach();
     test_cseq_comes_back();
+    test_keep();
     test_sweep();
     test_texts();
     test_refusals();

@@ -28,7 +28,10 @@ void check(bool holds, const char *claim);
 
 enum { FILL = 0xA5, REQUEST_ROOM = 3000 };
 
+#define TEN(text) text text text text text text text text text text
+#define SESSION "Session: 00000001\r\n"
 #define TRANSPORT "Transport: RTP/AVP;unicast;client_port=5000-5001\r\n"
+#define PIDS_33 "0,1,2,3,4,5,6,7,8,9,10,11,12,13,14,15,16,17,18,19,20,21,22,23,24,25,26,27,28,29,30,31,32"
 #define BAD_UNNUMBERED "RTSP/1.0 400 Bad Request\r\n\r\n"
 #define BAD "RTSP/1.0 400 Bad Request\r\nCSeq: 1\r\n\r\n"
 
@@ -127,6 +130,10 @@ void test_reach(void);
 /* plain_test_cseq.c */
 
 void test_cseq_comes_back(void);
+
+/* plain_test_keep.c */
+
+void test_keep(void);
 
 /* plain_test_sweep.c */
 

@@ -156,7 +156,10 @@ static void test_every_port(void)
     }
 }
 
-/* 5.10: a SETUP in a session that fails keeps the port; one that passes replaces only the port and merges. */
+/*
+ * 5.10: a SETUP in a session that fails keeps the port; one that passes replaces only the port and merges. Both set the
+ * last time.
+ */
 static void test_setup_in_session(void)
 {
     static const char port[] = "Session: 00000001\r\nTransport: RTP/AVP;unicast;client_port=6000-6001\r\n";
@@ -169,6 +172,7 @@ static void test_setup_in_session(void)
     now = 10;
     address = 0x01020304;
     draw = 77;
+    before.last = 10;
     GIVES(403, ask("SETUP rtsp://h/stream=1?msys=dvbs&pol=v", port));
     GIVES(503, ask(uri, port));
     strcat(uri, "&msys=dvbs");

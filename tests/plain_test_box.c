@@ -90,6 +90,20 @@ static bool records_follow(const struct plain_box *before)
         && count_open(before) + openings == count_open(&box) + closings;
 }
 
+/* How many sessions have another last time than before, all of them the clock's; or more than there are. */
+static size_t last_times_set(const struct plain_box *before)
+{
+    size_t set = 0;
+    for (size_t i = 0; i < PLAIN_SESSIONS; i++) {
+        const struct plain_session *session = &box.sessions[i];
+        if (session->number == 0 || session->number != before->sessions[i].number
+            || session->last == before->sessions[i].last)
+            continue;
+        set += session->last == box.clock ? 1 : PLAIN_SESSIONS + 1;
+    }
+    return set;
+}
+
 /* What a sweep, and a request, keep in table and journal. */
 static void check_kept(const struct plain_box *before, const uint8_t *journal_before)
 {
@@ -114,6 +128,7 @@ int send_bytes(const void *bytes, size_t length)
     check(plain_request(&box, request, length, now, address, draw, answer, sizeof answer, &answer_count,
                         journal(), box.settings.size) == 0, "a good call is not refused");
     check_kept(&before, journal_before);
+    check(last_times_set(&before) <= 1, "one last time is set at most, and to the clock");
     check(answer_count >= 20 && memcmp(answer, "RTSP/1.0 ", 9) == 0
               && memcmp(answer + answer_count - 4, "\r\n\r\n", 4) == 0, "the answer is one");
     check(filled(answer + answer_count, sizeof answer - answer_count), "the answer buffer's rest stays");
@@ -164,6 +179,7 @@ void tick(uint32_t time)
     now = time;
     check(plain_tick(&box, now, journal(), box.settings.size) == 0, "a good tick is not refused");
     check_kept(&before, journal_before);
+    check(last_times_set(&before) == 0, "a tick sets no last time");
 }
 
 bool record_is(size_t place, int kind, int cause, uint32_t session, int stream, int frontend)

@@ -97,10 +97,7 @@ struct exchange {
     const char *rest;     /* its lines after CSeq */
 };
 
-#define TEN(text) text text text text text text text text text text
-#define SESSION "Session: 00000001\r\n"
 #define DESTINATION "Transport: RTP/AVP;unicast;destination=192.168.178.39;client_port="
-#define PIDS_33 "0,1,2,3,4,5,6,7,8,9,10,11,12,13,14,15,16,17,18,19,20,21,22,23,24,25,26,27,28,29,30,31,32"
 
 /* On a box with F = 2 whose session 1 owns stream 1 with document 01's example. */
 static const struct exchange exchanges[] = {

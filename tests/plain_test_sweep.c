@@ -7,18 +7,22 @@
 
 /* EDGES 6: sweep, clock, sessions. */
 
+/* 6.1 and 6.2, amended by order 3 of document 02, which plain_test_keep.c goes through. */
 static void test_last_time(void)
 {
     fresh(2, 1024);
     GIVES(200, raw(example));
-    now = 30;
+    now = 20;
     GIVES(200, in(1, "SETUP", "/stream=1"));
+    CHECK(box.sessions[0].last == 20);
+    now = 30;
     GIVES(200, in(1, "PLAY", "/stream=1"));
-    CHECK(box.sessions[0].last == 0);
+    CHECK(box.sessions[0].last == 30);
+    now = 31;
     GIVES(551, ask("OPTIONS rtsp://h/", "Session: 00000001\r\nRequire: x\r\n"));
     GIVES(400, ask("OPTIONS rtsp://h/?pol=h", "Session: 00000001\r\n"));
     GIVES(200, ask("OPTIONS rtsp://h/", ""));
-    CHECK(box.sessions[0].last == 0);
+    CHECK(box.sessions[0].last == 30);
     tick(59);
     CHECK(count_open(&box) == 1);
     now = 40;

@@ -1,5 +1,6 @@
 /*
- * A request before the table: steps 10 to 18 of the answer, and what a 200 changes.
+ * A request before the table: steps 10 to 18 of the answer, the last time that is set between them, and what a 200
+ * changes.
  */
 #include "plain_parts.h"
 
@@ -251,16 +252,27 @@ static bool can_open(const struct turn *turn)
     return box->held + PLAIN_RECORD_BYTES * (plain_count_open(box) + 2) <= box->settings.size;
 }
 
-/* Steps 10 to 18. */
+/* Steps 10 and 11. */
+static enum status judge_session(struct turn *turn)
+{
+    if (lacks_stream(turn->reading))
+        return STATUS_METHOD_NOT_ALLOWED;                           /* step 10 */
+    turn->session = find_session(turn->box, turn->reading->session);
+    return lacks_session(turn) ? STATUS_SESSION_NOT_FOUND : STATUS_OK; /* step 11 */
+}
+
+/* Order 3: past step 11 a request sets the last time of the session it names, also if a later step refuses it. */
+static void set_last_time(struct turn *turn)
+{
+    if (turn->session != NULL)
+        turn->session->last = turn->box->clock;
+}
+
+/* Steps 12 to 18. */
 static enum status judge(struct turn *turn)
 {
     const struct reading *reading = turn->reading;
     bool setup = reading->method == METHOD_SETUP;
-    if (lacks_stream(reading))
-        return STATUS_METHOD_NOT_ALLOWED;                           /* step 10 */
-    turn->session = find_session(turn->box, reading->session);
-    if (lacks_session(turn))
-        return STATUS_SESSION_NOT_FOUND;                            /* step 11 */
     if (reading->method == METHOD_OPTIONS)
         return STATUS_OK;
     turn->stream = find_stream(turn->box, reading->stream);
@@ -308,12 +320,10 @@ static void open_session(struct turn *turn, uint32_t address, uint32_t draw, uin
     plain_append_record(box, journal, turn->session, joins ? KIND_JOINED : KIND_OPENED, CAUSE_NONE);
 }
 
-/* What OPTIONS, PLAY and SETUP change in their session and its stream. */
+/* What PLAY and SETUP change in their session and its stream, its last time aside. */
 static void change_session(struct turn *turn)
 {
     const struct reading *reading = turn->reading;
-    if (reading->method == METHOD_OPTIONS)
-        turn->session->last = turn->box->clock;
     if (reading->method == METHOD_SETUP)
         turn->session->port = reading->port;
     if (reading->method == METHOD_PLAY)
@@ -341,7 +351,11 @@ enum status plain_take_turn(struct plain_box *box, const struct reading *reading
                             uint32_t draw, uint8_t *journal, struct plain_session *session)
 {
     struct turn turn = {.box = box, .reading = reading};
-    enum status status = judge(&turn);
+    enum status status = judge_session(&turn);
+    if (status != STATUS_OK)
+        return status;
+    set_last_time(&turn);
+    status = judge(&turn);
     if (status == STATUS_OK)
         *session = carry_out(&turn, address, draw, journal);
     return status;
