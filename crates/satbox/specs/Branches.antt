@@ -4,32 +4,27 @@ use Prim.Native.Nat.{ℕ, _≤_}
 use mathlib.Core.Path.{_≡_}
 use mathlib.Core.Bool.{true, cond}
 use mathlib.Core.List.{List, _++_}
-use lib.Dec.{eqb, ltb}
+use lib.Dec.{eqb}
 use lib.ListN.{length, drop}
 use Rattle.refusals.specs.Refusals.{isRead}
 use Rattle.refusals.specs.declared.Refusal.{Refusal}
 use Rattle.reader.specs.declared.Request.{Request}
 use Rattle.reader.specs.declared.fields.Session.{Session as Sent}
-use Rattle.table.specs.Table.{noSession, sessionAt}
-use Rattle.table.specs.declared.Session.{Session}
 use Rattle.table.specs.declared.SatBox.{SatBox}
-use Rattle.steps.specs.Sights.{placeNamed}
+use Rattle.steps.specs.Sights.{sessionNumber}
 use Rattle.steps.specs.Handed.{Told}
 use Rattle.steps.specs.Steps.{isPassed}
 use Rattle.steps.specs.Replies.{replyText}
 use Rattle.steps.specs.declared.cases.Case.{Case}
 use Rattle.closings.specs.Closing.{Did, nothing, restreamed}
-use Rattle.serving.specs.Serving.{refreshed, answered}
+use Rattle.serving.specs.Serving.{answered}
 use Rattle.serving.specs.Turns.{noTurn, seated, Seatable, TurnIs}
 use Rattle.serving.specs.declared.Turn.{Turn}
 use Rattle.satbox.specs.declared.Response.{Response}
 
--- the place of the session that a request names, where steps 1 to 10 let it through, and that session with the last time that it then has
-abbrev pub placeBy : SatBox → Refusal → Sent → ℕ
-placeBy t refusal sent = cond (isRead refusal) (placeNamed sent t) 32
-
-abbrev pub keptAt : SatBox → ℕ → Session
-keptAt t place = cond (ltb place 32) (refreshed (t .clock) (sessionAt t place)) noSession
+-- the number of the session that a request names, where steps 1 to 10 let it through
+abbrev pub numberBy : Refusal → Sent → ℕ
+numberBy refusal sent = cond (isRead refusal) (sessionNumber sent) 0
 
 -- what passed steps 1 to 15 was read
 abbrev pub Tells : List ℕ → Request → Case → Type 0
