@@ -14,7 +14,7 @@ use Rattle.closings.specs.Closing.{restreamed, reseated, noting, recordOf, clos
 use Rattle.closings.specs.Does.{Closable}
 use Rattle.satbox.specs.Calls.{emptied}
 use Rattle.serving.specs.Serving.{withSession}
-use Rattle.promises.proofs.Serving.{Alike}
+use Rattle.serving.proofs.Kept.{Alike}
 use Rattle.lives.specs.Audit.{unheld, notedBy, audited, holds, Agree}
 use Rattle.lives.proofs.Keepers.{audited-more, noted-none, noted-others, closed-keeps, closed-kept, closed-kept-others, freed-keeps, fed-keeps, alike-keeps, isHolder, keeps}
 

@@ -15,7 +15,7 @@ use Rattle.table.specs.Table.{any, count, noSession, hasNumber, withStream, isO
 use Rattle.table.proofs.Ids.{streamIn}
 use Rattle.table.specs.declared.Session.{Session}
 use Rattle.table.proofs.Counts.{bit-no, bit-yes, count-set, count-zero-at, none-count, getD-set-alike}
-use Rattle.promises.proofs.Serving.{Alike}
+use Rattle.serving.proofs.Kept.{Alike}
 use Rattle.promises.proofs.Methods.{stream-other}
 use Rattle.lives.specs.Audit.{Frontend, unheld, heldBy, letGo, isHeldBy, closedBy, notedBy}
 

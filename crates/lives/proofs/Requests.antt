@@ -27,7 +27,7 @@ use Rattle.serving.proofs.Passing.{Untested, named-needed, own-live}
 use Rattle.serving.proofs.Branching.{merging-live}
 use Rattle.promises.proofs.Passing.{served-by, tears-closable}
 use Rattle.promises.proofs.Requests.{answered-by}
-use Rattle.promises.proofs.Serving.{Alike}
+use Rattle.serving.proofs.Kept.{Alike}
 
 -- a session after a request that names it: its last time is as it was, or the clock
 pub record Kin (clock : ℕ) (s old : Session) : Type 0 where

@@ -17,7 +17,7 @@ use Rattle.satbox.specs.Calls.{requested}
 use Rattle.serving.specs.declared.opening.Client.{Client}
 use Rattle.closings.proofs.Keeping.{Whole}
 use Rattle.satbox.proofs.Kept.{sweeping-whole}
-use Rattle.promises.proofs.Serving.{Alike}
+use Rattle.serving.proofs.Kept.{Alike}
 use Rattle.lives.specs.Audit.{restream, retune, replace, opensAsOwner, joins, begun, quiet, noted}
 use Rattle.lives.proofs.Requests.{Retuned, as-it-was, merged, answered-holds}
 use Rattle.lives.proofs.Agreeing.{agree-fed, agree-replaced}

@@ -27,7 +27,7 @@ use Rattle.steps.specs.Sights.{Asked, Lists, codesIn, askedOf, listsOf}
 use Rattle.steps.specs.declared.cases.Case.{Case}
 use Rattle.steps.specs.declared.cases.Case.the-variants.{Reading}
 use Rattle.closings.specs.Closing.{sweeping}
-use Rattle.serving.specs.Serving.{served, clientOf, answered}
+use Rattle.serving.specs.Serving.{kept, served, clientOf, answered}
 use Rattle.satbox.specs.Calls.{requested}
 use Rattle.serving.specs.declared.opening.Client.{Client}
 use Rattle.aim.proofs.QueryLaws.{code-among}
@@ -127,4 +127,4 @@ module _ (clock address draw : ℕ) (t : SatBox) {s : List ℕ} where
         let u = sweeping clock t .satbox in
         let asks : askedOf (u .settings .frontends) s ≡ a = asked-alike (u .settings .frontends) s (d .no-fe) ∙ d .asked in
         rw (refusal-alike (u .settings .frontends) s (d .no-fe), d .passed)
-        (ap₂ (λ (b : Asked) (m : Lists). served u b m (clientOf address draw b) .case) asks (d .lists) ∙ k u (clientOf address draw a))
+        (ap₂ (λ (b : Asked) (m : Lists). served (kept b u) b m (clientOf address draw b) .case) asks (d .lists) ∙ k (kept a u) (clientOf address draw a))

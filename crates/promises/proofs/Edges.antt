@@ -43,7 +43,7 @@ use Rattle.steps.specs.Replies.{replyText}
 use Rattle.steps.specs.declared.cases.Case.{Case}
 use Rattle.steps.specs.declared.cases.Case.the-variants.{Reading, Transport, TooManyPids}
 use Rattle.closings.specs.Closing.{nothing, upto, restreamed, reseated, noting, bytesOf, isExpired, closeOne, closeOn, cascade, closing, sweepAt, swept, atClock, sweeping}
-use Rattle.serving.specs.Serving.{seatingAs, joining, opening, merging, caseOf, withSession, served, answered}
+use Rattle.serving.specs.Serving.{seatingAs, joining, opening, merging, caseOf, withSession, kept, served, answered}
 use Rattle.satbox.specs.Calls.{requested, answerOf, requestOutcome, repliedInto, repliedJournal}
 use Rattle.serving.specs.declared.opening.Client.{Client}
 use Rattle.promises.proofs.Asks.{example, exampleAnswer, setupAt, setup, join, play, teardown, box, home, verdictOf, verdict, passes, ask, run, after}
@@ -60,7 +60,7 @@ unfolding listed numbersIn readNumber
 listing = 0
 
 unfoldable pub serving : ℕ
-unfolding requested answered served caseOf merging withSession joining opening seatingAs closeOne closeOn cascade closing sweepAt swept atClock upto restreamed reseated noting tableCase sightOf drawn choice mergeOf changed chosen goTogether merged
+unfolding requested answered kept served caseOf merging withSession joining opening seatingAs closeOne closeOn cascade closing sweepAt swept atClock upto restreamed reseated noting tableCase sightOf drawn choice mergeOf changed chosen goTogether merged
 serving = 0
 
 unfoldable pub meanings : ℕ

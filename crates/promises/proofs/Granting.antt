@@ -1,7 +1,7 @@
 -- WHO IS NOT REFUSED. A request that steps 1 to 10 let through, and that names an open session, is answered 200 where it is an OPTIONS, whatever stream it
 -- names, and where it is a TEARDOWN of that session's stream; what they then do is said in `Methods`. And document 01's answer text by examples: what each
 -- method is answered on 200, the refusals that carry a line more, and each step that P1 to P11 do not try. Assumes nothing.
-use mathlib.Core.Path.{_≡_, refl, ap, subst}
+use mathlib.Core.Path.{_≡_, refl, sym, _∙_, ap, subst}
 use mathlib.Core.Bool.{Bool, true, false, not, _&&_}
 use mathlib.Core.List.{List, [], _∷_}
 use Prim.Native.Nat.{ℕ, _<_}
@@ -26,7 +26,7 @@ use Rattle.table.proofs.Changes.{seated-live}
 use Rattle.steps.specs.Sights.{Asked, codesIn, askedOf, listsOf, placeNamed, sightOf}
 use Rattle.steps.specs.Steps.{tableCase}
 use Rattle.steps.specs.declared.cases.Case.the-variants.{Passed}
-use Rattle.serving.specs.Serving.{Serving, clientOf, answered}
+use Rattle.serving.specs.Serving.{Serving, served, clientOf, answered}
 use Rattle.satbox.specs.Calls.{answerOf}
 use Rattle.orders.specs.Orders.{orderAt, orderFor}
 use Rattle.orders.specs.declared.Ordered.the-variants.{On, Off}
@@ -34,6 +34,7 @@ use Rattle.closings.proofs.Keeping.{Whole}
 use Rattle.serving.proofs.Passing.{named-closable}
 use Rattle.serving.proofs.ServingLaws.{options-keeps}
 use Rattle.serving.proofs.Branching.{tears-down}
+use Rattle.promises.proofs.Keeps.{served-case, answered-case}
 use Rattle.promises.proofs.Asks.{example, box, home, verdict, ask, after}
 use Rattle.promises.proofs.Edges.{meanings}
 use Rattle.scan.specs.Lists.{_gives_or_}
@@ -84,6 +85,9 @@ module _ (s : List ℕ) (address draw : ℕ) (t : SatBox) (read : requestRefusal
     unfolding codesIn codeIn textIn
     no-fe = rw (unasked, value-none (t .settings .frontends) 1)
 
+  passes : served t a (listsOf s) (clientOf address draw a) .case ≡ Passed → answered s address draw t .case ≡ Passed
+  passes e = answered-case s address draw t read ∙ sym (served-case t a (listsOf s) (clientOf address draw a)) ∙ e
+
   module _ (named : place < 32) where
     -- OPTIONS
     module _ (options : methodOf s ≡ Options) where
@@ -92,8 +96,9 @@ module _ (s : List ℕ) (address draw : ℕ) (t : SatBox) (read : requestRefusal
       options-table = rw (options, lt-ltb place 32 named, no-query (rw options))
 
       pub options-passes : answered s address draw t .case ≡ Passed
-      unfolding answered sightOf
-      options-passes = rw read (ap (λ (x : Serving). x .case) (options-keeps t a (listsOf s) refl options-table options (clientOf address draw a)))
+      unfolding sightOf
+      options-passes =
+          passes (ap (λ (x : Serving). x .case) (options-keeps t a (listsOf s) refl options-table options (clientOf address draw a)))
 
     -- TEARDOWN of the session's own stream, on a well-formed table
     module _ (w : Whole t) (teardown : methodOf s ≡ Teardown) (own : a .stream ≡ sessionAt t place .stream) where
@@ -112,8 +117,9 @@ module _ (s : List ℕ) (address draw : ℕ) (t : SatBox) (read : requestRefusal
           rw (teardown, lt-ltb place 32 named, ne-eqb (a .stream) 0 some, ne-eqb (streamOf t (a .stream) .frontend) 0 live, eq-eqb (a .stream) (sessionAt t place .stream) own, no-fe (rw teardown), no-query (rw teardown))
 
       pub teardown-passes : answered s address draw t .case ≡ Passed
-      unfolding answered sightOf
-      teardown-passes = rw read (ap (λ (x : Serving). x .case) (tears-down t a (listsOf s) (clientOf address draw a) (sightOf t a) refl teardown-table teardown))
+      unfolding sightOf
+      teardown-passes =
+          passes (ap (λ (x : Serving). x .case) (tears-down t a (listsOf s) (clientOf address draw a) (sightOf t a) refl teardown-table teardown))
 
 -- on the box after document 01's example, whose session 1 owns stream 1 and does not play: what a request is answered at clock 0 with draw 1
 abbrev opened : SatBox

@@ -1,6 +1,7 @@
 pub mod Passing
 pub mod Serving
 pub mod Requests
+pub mod Keeps
 pub mod Records
 pub mod Written
 pub mod Reading

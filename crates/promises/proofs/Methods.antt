@@ -1,6 +1,6 @@
 -- WHAT EACH METHOD CHANGES, AND WHAT IT LEAVES ALONE: of a request answered 200, with any bytes s, on a well-formed table t that was swept; session by
--- session and field by field. A request that gets another status changes nothing (`Requests.answered-still`). Which records an opening and a closing
--- write is said in `Records`, and what is held for them in `Written`. Assumes nothing.
+-- session and field by field. A request that gets another status changes nothing but a last time (`Requests.answered-still`). Which records an opening
+-- and a closing write is said in `Records`, and what is held for them in `Written`. Assumes nothing.
 use mathlib.Core.Path.{_≡_, refl, sym, _∙_, ap, ap₂, subst}
 use mathlib.Core.Bool.{Bool, true, false, not, cond, _&&_}
 use mathlib.Core.List.{List, [], _∷_, map}
@@ -25,18 +25,21 @@ use Rattle.table.specs.declared.Session.{Session}
 use Rattle.table.specs.declared.SatBox.{SatBox}
 use Rattle.table.proofs.Changes.{clear, seated-live}
 use Rattle.steps.specs.Sights.{Asked, Lists, askedOf, listsOf, portOf, placeNamed, sightOf}
-use Rattle.steps.specs.Steps.{isPassed, looksUp, isNamed}
-use Rattle.closings.specs.Closing.{restreamed, reseated, noting, closeOne, closing}
-use Rattle.serving.specs.Serving.{hasPlace, seatingAs, joining, canOpen, opening, merging, merges, withSession, seatAfter, retuned, Serving, grant, clientOf, answered}
+use Rattle.steps.specs.Steps.{isPassed, isSetup, looksUp, isNamed}
+use Rattle.closings.specs.Closing.{Did, restreamed, reseated, noting, closeOne, closing}
+use Rattle.closings.specs.Does.{Closable}
+use Rattle.serving.specs.Serving.{hasPlace, seatingAs, joining, canOpen, opening, merging, merges, withSession, kept, seatAfter, retuned, Serving, grant, clientOf, answered}
 use Rattle.serving.specs.Turns.{takesQuery}
 use Rattle.serving.specs.declared.opening.Client.{Client}
 use Rattle.closings.proofs.Closings.{closing-fine}
 use Rattle.closings.proofs.Keeping.{Whole, live-id, owner-sessions, owner-streams}
+use Rattle.serving.proofs.Kept.{since, kept-named, kept-alone, kept-streams, kept-place, kept-whole}
 use Rattle.serving.proofs.OpeningKeeps.{row}
 use Rattle.serving.proofs.Passing.{Untested, named-needed, own-live, own-stream, named-closable}
 use Rattle.serving.proofs.Branching.{merging-new, merging-live, merging-feed, merging-src}
-use Rattle.promises.proofs.Passing.{Changing, served-by, tears-closable, source, feed, can-join, can-open, new-merged}
+use Rattle.promises.proofs.Passing.{Changing, served-by, source, feed, can-join, can-open, new-merged}
 use Rattle.promises.proofs.Requests.{answered-by}
+use Rattle.promises.proofs.Keeps.{kept-closes}
 
 -- WHAT IS SAID. What is fixed when a box is made, F and C, and the clock are as they were
 pub record Settled (t u : SatBox) : Type 0 where
@@ -203,7 +206,8 @@ module _ (t : SatBox) (a : Asked) (l : Lists) (client : Client) (w : Whole t) (t
 
 -- THE METHODS
 module _ (s : List ℕ) (address draw : ℕ) (t : SatBox) where
-  -- what is asked; the place of the open session that is named, past all places where none is, and that session; and the table after
+  -- what is asked; the place of the open session that is named, past all places where none is, and that session; the table where it is kept, order 3, and
+  -- the table after
   abbrev a : Asked
   a = askedOf (t .settings .frontends) s
 
@@ -216,55 +220,102 @@ module _ (s : List ℕ) (address draw : ℕ) (t : SatBox) where
   abbrev old : Session
   old = sessionAt t place
 
+  abbrev k : SatBox
+  k = kept a t
+
+  abbrev after : Method → Session
+  after m = cond (isSetup m) (but (t .clock) (portOf (a .transport)) (old .playing) old) (but (t .clock) (old .port) 1 old)
+
   abbrev u : SatBox
   u = answered s address draw t .did .satbox
 
   module _ (w : Whole t) (passed : isPassed (answered s address draw t .case) ≡ true) where
-    granted-by : (P : Serving → Type 0) → (Untested (sightOf t a) → Changing t a l → P (grant (a .method) t a l (clientOf address draw a))) → P (answered s address draw t)
+    granted-by : (P : Serving → Type 0) → (Untested (sightOf k a) → Changing k a l → P (grant (a .method) k a l (clientOf address draw a))) → P (answered s address draw t)
     granted-by P f =
         answered-by s address draw t (λ x. isPassed (x .case) ≡ true → P x)
-        (λ r. served-by t a l (clientOf address draw a) (λ x. isPassed (x .case) ≡ true → P x) (λ p q y. f p q) (λ n y. never y n)) (λ n y. never y n) passed
+        (λ r. served-by k a l (clientOf address draw a) (λ x. isPassed (x .case) ≡ true → P x) (λ p q y. f p q) (λ n y. never y n)) (λ n y. never y n) passed
 
-    untested : Untested (sightOf t a)
-    untested = granted-by (λ x. Untested (sightOf t a)) (λ p q. p)
+    untested : Untested (sightOf k a)
+    untested = granted-by (λ x. Untested (sightOf k a)) (λ p q. p)
 
-    changing : Changing t a l
-    changing = granted-by (λ x. Changing t a l) (λ p q. q)
+    changing : Changing k a l
+    changing = granted-by (λ x. Changing k a l) (λ p q. q)
 
-    does : {m : Method} → methodOf s ≡ m → u ≡ grant m t a l (clientOf address draw a) .did .satbox
-    does e = granted-by (λ x. x .did .satbox ≡ grant (a .method) t a l (clientOf address draw a) .did .satbox) (λ p q. refl) ∙ ap (λ m. grant m t a l (clientOf address draw a) .did .satbox) e
+    does : {m : Method} → methodOf s ≡ m → u ≡ grant m k a l (clientOf address draw a) .did .satbox
+    does e = granted-by (λ x. x .did .satbox ≡ grant (a .method) k a l (clientOf address draw a) .did .satbox) (λ p q. refl) ∙ ap (λ m. grant m k a l (clientOf address draw a) .did .satbox) e
+
+    -- WHERE A SESSION IS NAMED: what is done to it on the table where it is kept, and nothing else, is done to it on the one before
+    module _ (h : place < 32) where
+      there : sessionAt k place ≡ since a t
+      unfolding withSession
+      there = rw (kept-named a t h) (getD-set-same (t .sessions) place (since a t) noSession (omega (arith, w .places)))
+
+      kept-quietly : {v : SatBox} {x : Session} {id : ℕ} {m : Stream} → Quietly k v place x id m → Quietly t v place x id m
+      unfolding withSession
+      kept-quietly q =
+          let e = kept-named a t h in
+          let c = q .changes in
+          record {
+            changes =
+                record {
+                  session = c .session;
+                  others = λ i n. c .others i n ∙ rw e (getD-set-other (t .sessions) place i (since a t) noSession n);
+                  stream = c .stream;
+                  streams = λ i n. c .streams i n ∙ rw e;
+                  settled = settled-same (c .settled .settings ∙ rw e) (c .settled .clock ∙ rw e);
+                };
+            held = q .held ∙ rw e;
+            sequence = q .sequence ∙ rw e;
+          }
+
+      retunes : takesQuery (a .method) ≡ true → u ≡ withSession (sightOf k a .place) (seatAfter (sightOf k a)) (retuned k a l)
+          → Quietly t u place (after (a .method)) (old .stream) (tuned t a l old)
+      unfolding sightOf
+      retunes takes is =
+          let e = kept-place a t (a .session) in
+          let q : Quietly k u (placeNamed (a .session) k) (after (a .method)) (sessionAt k (placeNamed (a .session) k) .stream) (tuned k a l (sessionAt k (placeNamed (a .session) k))) =
+          rw is (retuning-quietly k a l (clientOf address draw a) (kept-whole a t w) takes untested (rw e h) (rw (e, there))) in
+          let g : tuned k a l (since a t) ≡ tuned t a l old = rw (kept-streams a t) in
+          kept-quietly (subst (λ m. Quietly k u place (after (a .method)) (old .stream) m) g (rw (e, there) at q))
 
     -- OPTIONS NAMING A SESSION sets its last time to the clock; the rest of it stays, and its stream
     pub options-refreshes : methodOf s ≡ Options → place < 32 → Quietly t u place (but (t .clock) (old .port) (old .playing) old) (old .stream) (streamOf t (old .stream))
-    unfolding sightOf
-    options-refreshes e h = rw (does e, lt-ltb place 32 h) (replaced-quietly t w h _ (old .stream))
+    options-refreshes e h = rw (does e, kept-named a t h) (replaced-quietly t w h _ (old .stream))
 
     -- OPTIONS NAMING NONE changes nothing
     pub options-alone : methodOf s ≡ Options → (place < 32 → ⊥) → u ≡ t
     unfolding sightOf
-    options-alone e h = does e ∙ rw (le-ltb place 32 (omega arith))
+    options-alone e h = does e ∙ kept-alone a t (le-ltb place 32 (omega arith))
 
-    -- and so does any other method, which step 6 refuses
-    pub other-alone : methodOf s ≡ Other → u ≡ t
+    -- and so does any other method, which step 6 refuses, but for the session that it names
+    pub other-alone : methodOf s ≡ Other → u ≡ k
     other-alone e = does e
 
-    -- SETUP IN A SESSION replaces only its port and, for the owner, merges the query; its last time stays
-    pub setup-replaces : methodOf s ≡ Setup → place < 32 → Quietly t u place (but (old .last) (portOf (a .transport)) (old .playing) old) (old .stream) (tuned t a l old)
+    -- SETUP IN A SESSION replaces only its port and, for the owner, merges the query; order 3: and sets its last time
+    pub setup-replaces : methodOf s ≡ Setup → place < 32 → Quietly t u place (but (t .clock) (portOf (a .transport)) (old .playing) old) (old .stream) (tuned t a l old)
     unfolding sightOf
-    setup-replaces e h = rw (does e, lt-ltb place 32 h) (retuning-quietly t a l (clientOf address draw a) w (rw e) untested h (rw e))
+    setup-replaces e h =
+        subst (λ m. Quietly t u place (after m) (old .stream) (tuned t a l old)) e
+        (retunes h (rw e) (does e ∙ rw (kept-place a t (a .session), lt-ltb place 32 h)))
 
-    -- PLAY marks the session playing and, for the owner, merges the query; its last time stays
-    pub play-marks : methodOf s ≡ Play → Quietly t u place (but (old .last) (old .port) 1 old) (old .stream) (tuned t a l old)
+    -- PLAY marks the session playing and, for the owner, merges the query; order 3: and sets its last time
+    pub play-marks : methodOf s ≡ Play → Quietly t u place (but (t .clock) (old .port) 1 old) (old .stream) (tuned t a l old)
     unfolding sightOf
     play-marks e =
-        rw (does e)
-        (retuning-quietly t a l (clientOf address draw a) w (rw e) untested (ltb-true place 32 (named-needed (sightOf t a) untested (rw e))) (rw e))
+        let h : place < 32 = ltb-true place 32 (rw (kept-place a t (a .session)) at (named-needed (sightOf k a) untested (rw e))) in
+        subst (λ m. Quietly t u place (after m) (old .stream) (tuned t a l old)) e (retunes h (rw e) (does e))
 
     -- SETUP WITHOUT A SESSION takes the lowest free place, with the clock for its last time:
     module _ (setup : methodOf s ≡ Setup) (stranger : place < 32 → ⊥) where
       unnamed : isNamed (sightOf t a) ≡ false
       unfolding sightOf
       unnamed = le-ltb place 32 (omega arith)
+
+      alone : k ≡ t
+      alone = kept-alone a t unnamed
+
+      free : Changing t a l
+      free = subst (λ x. Changing x a l) alone changing
 
       placed : (b : Bool) → hasPlace t && b ≡ true → lowestPlace (t .sessions) < 32
       placed b y = omega (arith, ltb-true (lowestPlace (t .sessions)) (length (t .sessions)) (and-both (hasPlace t) b y .0), w .places)
@@ -274,8 +325,8 @@ module _ (s : List ℕ) (address draw : ℕ) (t : SatBox) where
           → Changes t u (lowestPlace (t .sessions)) (newcomer address draw (portOf (a .transport)) (a .stream) 0 t) (a .stream) (streamOf t (a .stream))
       unfolding joining seatingAs noting reseated
       setup-joins some =
-          let y = can-join t a l changing setup unnamed some in
-          rw (does setup, unnamed, ne-eqb (a .stream) 0 some, y) (changes-one w (placed _ y) refl (settled-same refl refl) refl (a .stream))
+          let y = can-join t a l free setup unnamed some in
+          rw (does setup, alone, unnamed, ne-eqb (a .stream) 0 some, y) (changes-one w (placed _ y) refl (settled-same refl refl) refl (a .stream))
 
       -- or it owns a new one, with the lowest free ID
       pub setup-opens : a .stream ≡ 0
@@ -285,34 +336,43 @@ module _ (s : List ℕ) (address draw : ℕ) (t : SatBox) where
           let client = clientOf address draw a in
           let id = lowestId (t .streams) in
           let m = merging t a l .stream in
-          let y = can-open t a l changing setup unnamed none in
-          let o = new-merged t a l changing setup unnamed none in
+          let y = can-open t a l free setup unnamed none in
+          let o = new-merged t a l free setup unnamed none in
           let open-there : canOpen (m .values .src) (m .frontend) t ≡ true = rw (merging-src t a l client (sightOf t a) refl none o, merging-feed t a l client (sightOf t a) refl none) y in
           subst (λ x. Changes t u (lowestPlace (t .sessions)) (newcomer address draw (portOf (a .transport)) id 1 t) id x)
           (ap (λ (c : Change). c .stream) (merging-new t a l client (sightOf t a) refl none))
-          (rw (does setup, unnamed, eq-eqb (a .stream) 0 none, open-there)
+          (rw (does setup, alone, unnamed, eq-eqb (a .stream) 0 none, open-there)
           (changes-both w (placed _ y) refl (settled-same refl refl) id m refl
           (getD-set-same (t .streams) (first isDead (t .streams)) m pastStream (row (source t a) (feed t a) t y w))))
 
     -- TEARDOWN closes
     module _ (teardown : methodOf s ≡ Teardown) where
+      closes : u ≡ closing 1 place t .satbox
+      unfolding sightOf
+      closes = does teardown ∙ ap (λ (d : Did). d .satbox) (kept-closes a t 1)
+
+      closable : Closable t place
+      unfolding sightOf
+      closable =
+          named-closable t w a (sightOf t a) refl (rw (kept-place a t (a .session)) at (named-needed (sightOf k a) untested (rw teardown)))
+
       -- the session that is named, and no other where it owns nothing;
       pub teardown-leaves : old .owner ≡ 0 → Changes t u place noSession (old .stream) (streamOf t (old .stream))
       unfolding closing closeOne noting reseated sightOf
       teardown-leaves none =
-          rw (does teardown, eq-eqb (old .owner) 0 none)
-          (changes-one w (tears-closable t a w untested teardown .below) refl (settled-same refl refl) refl (old .stream))
+          rw (closes, eq-eqb (old .owner) 0 none)
+          (changes-one w (closable .below) refl (settled-same refl refl) refl (old .stream))
 
       -- and with an owner each that is on its stream
       pub teardown-empties : (old .owner ≡ 0 → ⊥) → Empties t u (old .stream)
       unfolding sightOf
       teardown-empties some =
           let id = old .stream in
-          let c = tears-closable t a w untested teardown in
+          let c = closable in
           let f = closing-fine 1 place t c in
           let ss = owner-sessions 1 place t c w some in
           let ms = owner-streams 1 place t c w some in
-          rw (does teardown)
+          rw closes
           (record {
             gone = λ i on. rw (ss, getD-clear id (t .sessions) i, on);
             others = λ i off. rw (ss, getD-clear id (t .sessions) i, off);

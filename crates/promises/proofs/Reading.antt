@@ -16,7 +16,7 @@ use Rattle.steps.proofs.Telling.{asked-fit, asked-port}
 use Rattle.satbox.specs.Calls.{requested, replied}
 use Rattle.closings.proofs.Keeping.{Whole}
 use Rattle.serving.proofs.Recorded.{Recorded}
-use Rattle.promises.proofs.Serving.{isPort}
+use Rattle.serving.proofs.Kept.{isPort}
 use Rattle.promises.proofs.Requests.{Reads, requested-whole, replied-whole}
 use Rattle.promises.proofs.Written.{requested-recorded}
 

@@ -8,7 +8,7 @@ use lib.ListN.{set}
 use lib.Seq.{getD-set-same}
 use borrow.Author.Tests.{ne-eqb, eq-eqb}
 use Rattle.scan.specs.Lists.{first}
-use Rattle.scan.proofs.Bools.{never, cond-keeps}
+use Rattle.scan.proofs.Bools.{never}
 use Rattle.aim.specs.declared.Method.{Method}
 use Rattle.aim.specs.declared.Method.the-variants.{Options, Setup, Play, Teardown}
 use Rattle.reader.specs.Request.{methodOf}
@@ -21,14 +21,16 @@ use Rattle.table.specs.declared.Session.{Session}
 use Rattle.table.specs.declared.SatBox.{SatBox}
 use Rattle.steps.specs.Sights.{Asked, Lists, askedOf, listsOf, sightOf}
 use Rattle.steps.specs.Steps.{isPassed, isNamed}
-use Rattle.closings.specs.Closing.{Did, nothing, restreamed, noting, recordOf, closing, sweeping}
-use Rattle.serving.specs.Serving.{guest, seatingAs, joining, opening, merging, Serving, granted, grant, served, clientOf, answered}
+use Rattle.closings.specs.Closing.{Did, restreamed, noting, recordOf, closing, sweeping}
+use Rattle.serving.specs.Serving.{guest, seatingAs, joining, opening, merging, kept, Serving, granted, grant, served, clientOf, answered}
 use Rattle.satbox.specs.Calls.{requested}
 use Rattle.serving.specs.declared.opening.Client.{Client}
 use Rattle.closings.proofs.Keeping.{Whole}
 use Rattle.serving.proofs.OpeningKeeps.{row}
 use Rattle.serving.proofs.Branching.{merging-feed, merging-src}
 use Rattle.closings.proofs.Leaving.{leaving, joiner-records, owner-records}
+use Rattle.serving.proofs.Kept.{kept-alone}
+use Rattle.promises.proofs.Keeps.{kept-isNamed, kept-closes}
 use Rattle.promises.proofs.Passing.{Changing, served-by, source, feed, can-join, can-open, new-merged}
 use Rattle.promises.proofs.Serving.{denied-still}
 use Rattle.promises.proofs.Requests.{answered-by, answered-still}
@@ -74,7 +76,7 @@ module _ (t : SatBox) (a : Asked) (l : Lists) (client : Client) where
 
   -- NONE of an OPTIONS
   pub options-records : a .method ≡ Options → served t a l client .did .records ≡ []
-  options-records e = quiet Options e (cond-keeps (λ (d : Did). d .records ≡ []) (isNamed (sightOf t a)) _ (nothing t) (λ h. refl) (λ h. refl))
+  options-records e = quiet Options e refl
 
   -- "NO PLAY"
   pub play-records : a .method ≡ Play → served t a l client .did .records ≡ []
@@ -134,13 +136,13 @@ module _ (t : SatBox) (a : Asked) (l : Lists) (client : Client) where
       unfolding sightOf
       emptied-records own w = closed-records ∙ owner-records 1 (sightOf t a .place) t own (w .places)
 
--- THE SAME OF ITS BYTES s, on a table that was swept
+-- THE SAME OF ITS BYTES s, on a table that was swept: the session that is named is kept, and no record says so
 module _ (s : List ℕ) (address draw : ℕ) (t : SatBox) where
   abbrev pub asks : Asked
   asks = askedOf (t .settings .frontends) s
 
   abbrev pub serves : Serving
-  serves = served t asks (listsOf s) (clientOf address draw asks)
+  serves = served (kept asks t) asks (listsOf s) (clientOf address draw asks)
 
   -- a request that is granted was read
   pub answered-is : isPassed (answered s address draw t .case) ≡ true → answered s address draw t ≡ serves
@@ -151,13 +153,13 @@ module _ (s : List ℕ) (address draw : ℕ) (t : SatBox) where
   silent none = answered-by s address draw t (λ (x : Serving). x .did .records ≡ []) (λ e. none) (λ e. refl)
 
   pub answered-options : methodOf s ≡ Options → answered s address draw t .did .records ≡ []
-  answered-options e = silent (options-records t asks (listsOf s) (clientOf address draw asks) e)
+  answered-options e = silent (options-records (kept asks t) asks (listsOf s) (clientOf address draw asks) e)
 
   pub answered-play : methodOf s ≡ Play → answered s address draw t .did .records ≡ []
-  answered-play e = silent (play-records t asks (listsOf s) (clientOf address draw asks) e)
+  answered-play e = silent (play-records (kept asks t) asks (listsOf s) (clientOf address draw asks) e)
 
   pub answered-retuned : methodOf s ≡ Setup → isNamed (sightOf t asks) ≡ true → answered s address draw t .did .records ≡ []
-  answered-retuned e named = silent (retuned-records t asks (listsOf s) (clientOf address draw asks) e named)
+  answered-retuned e named = silent (retuned-records (kept asks t) asks (listsOf s) (clientOf address draw asks) e (rw (kept-isNamed asks t) named))
 
   module _ (passed : isPassed (answered s address draw t .case) ≡ true) where
     same : answered s address draw t ≡ serves
@@ -166,19 +168,28 @@ module _ (s : List ℕ) (address draw : ℕ) (t : SatBox) where
     served-passed : isPassed (serves .case) ≡ true
     served-passed = subst (λ (x : Serving). isPassed (x .case) ≡ true) same passed
 
+    -- one that names no session comes to the table as it was
+    alone : isNamed (sightOf t asks) ≡ false → answered s address draw t ≡ served t asks (listsOf s) (clientOf address draw asks)
+    alone stranger = same ∙ ap (λ k. served k asks (listsOf s) (clientOf address draw asks)) (kept-alone asks t stranger)
+
+    alone-passed : isNamed (sightOf t asks) ≡ false → isPassed (served t asks (listsOf s) (clientOf address draw asks) .case) ≡ true
+    alone-passed stranger = subst (λ (x : Serving). isPassed (x .case) ≡ true) (alone stranger) passed
+
     pub answered-joined : methodOf s ≡ Setup → isNamed (sightOf t asks) ≡ false → (asks .stream ≡ 0 → ⊥)
         → answered s address draw t .did .records
         ≡ opensAs 2 (answered s address draw t .session) (streamOf t (asks .stream) .frontend) t ∷ []
     answered-joined setup stranger some =
-        subst (λ (x : Serving). x .did .records ≡ opensAs 2 (x .session) (streamOf t (asks .stream) .frontend) t ∷ []) (sym same)
-        (joined-records t asks (listsOf s) (clientOf address draw asks) served-passed setup stranger some)
+        subst (λ (x : Serving). x .did .records ≡ opensAs 2 (x .session) (streamOf t (asks .stream) .frontend) t ∷ []) (sym (alone stranger))
+        (joined-records t asks (listsOf s) (clientOf address draw asks) (alone-passed stranger) setup stranger some)
 
     pub answered-opened : methodOf s ≡ Setup → isNamed (sightOf t asks) ≡ false → asks .stream ≡ 0 → Whole t
         → answered s address draw t .did .records ≡ opensAs 1 (answered s address draw t .session) (feed t asks) t ∷ []
     answered-opened setup stranger none w =
-        subst (λ (x : Serving). x .did .records ≡ opensAs 1 (x .session) (feed t asks) t ∷ []) (sym same)
-        (opened-records t asks (listsOf s) (clientOf address draw asks) served-passed setup stranger none w)
+        subst (λ (x : Serving). x .did .records ≡ opensAs 1 (x .session) (feed t asks) t ∷ []) (sym (alone stranger))
+        (opened-records t asks (listsOf s) (clientOf address draw asks) (alone-passed stranger) setup stranger none w)
 
     pub answered-closed : methodOf s ≡ Teardown → answered s address draw t .did .records ≡ closing 1 (sightOf t asks .place) t .records
     answered-closed e =
-        ap (λ (x : Serving). x .did .records) same ∙ closed-records t asks (listsOf s) (clientOf address draw asks) served-passed e
+        ap (λ (x : Serving). x .did .records) same
+        ∙ closed-records (kept asks t) asks (listsOf s) (clientOf address draw asks) served-passed e
+        ∙ ap (λ (d : Did). d .records) (kept-closes asks t 1)

@@ -1,103 +1,41 @@
 -- A request that steps 1 to 10 let through keeps a table well formed; and one that steps 11 to 18 refuse changes nothing. Assumes nothing.
 use mathlib.Core.Path.{_≡_, refl, sym, _∙_, ap, subst}
-use mathlib.Core.Bool.{Bool, true, false, _&&_}
-use mathlib.Core.List.{_∷_}
-use Prim.Native.Nat.{ℕ, _%_, _<_}
+use mathlib.Core.Bool.{true, false}
+use Prim.Native.Nat.{ℕ, _<_}
 use native.Mathlib.Omega.{arith}
-use lib.Dec.{eqb, leb}
-use lib.ListN.{length-set}
-use borrow.Author.Tests.{ne-eqb, eqb-true, le-leb}
-use Rattle.scan.specs.Lists.{isBetween}
-use Rattle.scan.proofs.Bools.{never, and-both, cond-keeps}
+use lib.Dec.{eqb}
+use borrow.Author.Tests.{eqb-true}
+use Rattle.scan.proofs.Bools.{never, cond-keeps}
 use Rattle.aim.specs.declared.Method.{Method}
 use Rattle.aim.specs.declared.Method.the-variants.{Options, Setup, Play, Teardown, Other}
 use Rattle.reader.specs.declared.fields.Transport.{Transport}
 use Rattle.reader.specs.declared.fields.Transport.the-variants.{Other as Missing, Port}
-use Rattle.stream.specs.Streams.{pastStream, blank, isSound, mergeOf}
+use Rattle.stream.specs.Streams.{blank, isSound, mergeOf}
 use Rattle.stream.specs.Arrays.{areFit}
 use Rattle.stream.specs.declared.Change.{Change}
 use Rattle.stream.proofs.Soundness.{blank-sound}
 use Rattle.stream.proofs.Keeping.{merge-sound}
-use Rattle.table.specs.Table.{noSession, isOpen, sessionAt, streamOf}
-use Rattle.table.specs.Formed.{isSeated}
-use Rattle.table.proofs.Rules.{isProper}
+use Rattle.table.specs.Table.{sessionAt, streamOf}
 use Rattle.table.specs.declared.Session.{Session}
 use Rattle.table.specs.declared.SatBox.{SatBox}
-use Rattle.table.proofs.Counts.{count-set-same}
-use Rattle.table.proofs.Changes.{seats-alike, proper-set}
 use Rattle.steps.specs.Sights.{Asked, Lists, portOf, sightOf}
 use Rattle.steps.specs.Steps.{isSetup, looksUp, isNamed, isPassed}
-use Rattle.closings.specs.Closing.{Did, nothing, restreamed}
-use Rattle.serving.specs.Serving.{merging, merges, withSession, refreshed, seatAfter, Serving, keeping, retuning, seating, grant, served}
+use Rattle.closings.specs.Closing.{nothing, restreamed}
+use Rattle.serving.specs.Serving.{merging, merges, withSession, seatAfter, Serving, retuning, seating, grant, served}
 use Rattle.serving.specs.Turns.{atPort, playing}
 use Rattle.serving.specs.declared.opening.Client.{Client}
 use Rattle.closings.proofs.Keeping.{Whole, closing-whole}
 use Rattle.satbox.proofs.Kept.{merged-whole}
+use Rattle.serving.proofs.Kept.{replaced-whole, isPort, Seated, seated, proper}
 use Rattle.serving.proofs.OpeningKeeps.{Proper, joining-whole, feed-range, opening-whole}
 use Rattle.serving.proofs.Passing.{Untested, named-needed, named-closable, own-live}
 use Rattle.serving.proofs.Branching.{merging-new, merging-live}
 use Rattle.satbox.proofs.RequestLaws.{grant-passes}
 use Rattle.promises.proofs.Passing.{Changing, served-by, tears-closable, through-port, source, feed, through-merged, through-reached, can-open, new-merged}
 
--- a session that keeps its number, its stream, and whether it owns it
-pub record Alike (s u : Session) : Type 0 where
-  pub number : s .number ≡ u .number
-  pub stream : s .stream ≡ u .stream
-  pub owner : s .owner ≡ u .owner
-
--- A SESSION IS CHANGED in its place: the table stays well formed (`Whole`)
-pub replaced-whole : (place : ℕ) (s : Session) (t : SatBox) → Whole t → Alike s (sessionAt t place) → isProper (t .clock) s ≡ true → Whole (withSession place s t)
-unfolding withSession
-replaced-whole place s t w k good =
-    let n = count-set-same isOpen (t .sessions) place s noSession (rw (k .number)) in
-    record {
-      formed =
-          record {
-            settings = w .formed .settings;
-            seats =
-                seats-alike (t .sessions) (pastStream ∷ t .streams) (w .formed .seats) place s (k .number) (k .stream) (k .owner);
-            rows = w .formed .rows;
-            proper = proper-set (t .clock) (t .sessions) (w .formed .proper) place s good;
-            fits = record { whole = w .formed .fits .whole; bound = rw n (w .formed .fits .bound) };
-          };
-      places = length-set (t .sessions) place s ∙ w .places;
-      rows = w .rows;
-    }
-
--- step 15: "a even, 1024 to 65534"
-abbrev pub isPort : ℕ → Bool
-isPort p = isBetween 1024 65534 p && eqb (p % 2) 0
-
--- what "well formed" asks of an open session's own values
-record Seated (clock : ℕ) (s : Session) : Type 0 where
-  port : isPort (s .port) ≡ true
-  owner : leb (s .owner) 1 ≡ true
-  playing : leb (s .playing) 1 ≡ true
-  last : leb (s .last) clock ≡ true
-
-seated : (clock : ℕ) (s : Session) → (s .number ≡ 0 → ⊥) → isProper clock s ≡ true → Seated clock s
-unfolding isSeated
-seated clock s some e =
-    let a = and-both _ (leb (s .last) clock) (rw (ne-eqb (s .number) 0 some) at e) in
-    let b = and-both _ (leb (s .playing) 1) (a .0) in
-    let c = and-both _ (leb (s .owner) 1) (b .0) in
-    record { port = c .0; owner = c .1; playing = b .1; last = a .1 }
-
-proper : (clock : ℕ) (s : Session) → (s .number ≡ 0 → ⊥) → Seated clock s → isProper clock s ≡ true
-unfolding isSeated
-proper clock s some p = rw (ne-eqb (s .number) 0 some, p .port, p .owner, p .playing, p .last)
-
 module _ (place : ℕ) (t : SatBox) (w : Whole t) (some : sessionAt t place .number ≡ 0 → ⊥) where
   values : Seated (t .clock) (sessionAt t place)
   values = seated (t .clock) (sessionAt t place) some (w .formed .proper place)
-
-  -- an OPTIONS sets "the last time to the clock"
-  pub refreshed-whole : Whole (withSession place (refreshed (t .clock) (sessionAt t place)) t)
-  refreshed-whole =
-      let s = refreshed (t .clock) (sessionAt t place) in
-      replaced-whole place s t w (record { number = refl; stream = refl; owner = refl })
-      (proper (t .clock) s some
-      (record { port = values .port; owner = values .owner; playing = values .playing; last = le-leb (t .clock) (t .clock) (omega arith) }))
 
   -- "SETUP in a session replaces only the port"
   pub ported-whole : (port : ℕ) → isPort port ≡ true → Whole (withSession place (atPort port (sessionAt t place)) t)
@@ -131,13 +69,6 @@ module _ (t : SatBox) (a : Asked) (l : Lists) (client : Client) (w : Whole t) (f
   open-named : isNamed (sightOf t a) ≡ true → sightOf t a .session .number ≡ 0 → ⊥
   unfolding sightOf
   open-named named = named-closable t w a (sightOf t a) refl named .some
-
-  -- AN OPTIONS
-  keeping-whole : Whole (keeping t (sightOf t a) .did .satbox)
-  unfolding sightOf
-  keeping-whole =
-      cond-keeps (λ (d : Did). Whole (d .satbox)) (isNamed (sightOf t a)) _ (nothing t)
-      (λ e. refreshed-whole (sightOf t a .place) t w (open-named e)) (λ e. w)
 
   -- A SETUP OR A PLAY of an open session
   module _ (named : isNamed (sightOf t a) ≡ true) (looks : looksUp (a .method) ≡ true) where
@@ -194,7 +125,7 @@ module _ (t : SatBox) (a : Asked) (l : Lists) (client : Client) (w : Whole t) (f
 
     grant-whole : (m : Method) → a .method ≡ m → Whole (grant m t a l client .did .satbox)
     unfolding sightOf
-    grant-whole Options e = keeping-whole
+    grant-whole Options e = w
     grant-whole Setup e =
         cond-keeps (λ (x : Serving). Whole (x .did .satbox)) (isNamed (sightOf t a)) (retuning t a l) (seating t a l client)
         (λ named. retuning-whole named (rw e)) (seating-whole e)
@@ -207,7 +138,7 @@ pub served-whole : (t : SatBox) (a : Asked) (l : Lists) (client : Client) → Wh
 served-whole t a l client w fit port draw =
     served-by t a l client (λ (x : Serving). Whole (x .did .satbox)) (λ p q. grant-whole t a l client w fit p q port draw (a .method) refl) (λ e. w)
 
--- "A STATUS OTHER THAN 200 CHANGES NOTHING": refused by one of steps 11 to 18, it leaves the table and writes no record
+-- "A STATUS OTHER THAN 200 CHANGES NOTHING": refused by one of steps 11 to 18, it leaves the table that it comes to, and writes no record
 pub denied-still : (t : SatBox) (a : Asked) (l : Lists) (client : Client) → isPassed (served t a l client .case) ≡ false → served t a l client .did ≡ nothing t
 denied-still t a l client =
     served-by t a l client (λ (x : Serving). isPassed (x .case) ≡ false → x .did ≡ nothing t)

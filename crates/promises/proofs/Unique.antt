@@ -295,9 +295,6 @@ pub closings-close-due : Unique closings.close_due.ended closings.close_due.Read
 closings-close-due κs a x y v w p q = (one (p .satbox) (q .satbox), λ i. (tt, (one (p .journal) (q .journal) i, (tt, tt))))
 
 -- SERVING
-pub serving-deny : Unique serving.deny.ended serving.deny.Reads.Post
-serving-deny κs a x y v w = same
-
 pub serving-turn-of : Unique serving.turn_of.ended serving.turn_of.Reads.Post
 serving-turn-of κs a x y v w = same
 

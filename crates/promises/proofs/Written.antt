@@ -19,13 +19,14 @@ use Rattle.steps.specs.Steps.{isNamed}
 use Rattle.closings.specs.Closing.{Did, nothing, then, restreamed, reseated, noting, closing, sweeping, atClock}
 use Rattle.closings.specs.Does.{Closable}
 use Rattle.serving.specs.Serving.{guest, seatingAs as seated, canJoin, joining, canOpen, opening}
-use Rattle.serving.specs.Serving.{merging, merges, withSession, seatAfter, Serving, retuning, seating, grant, served, clientOf, answered}
+use Rattle.serving.specs.Serving.{merging, merges, withSession, kept, seatAfter, Serving, retuning, seating, grant, served, clientOf, answered}
 use Rattle.satbox.specs.Calls.{requested}
 use Rattle.serving.specs.declared.opening.Client.{Client}
 use Rattle.closings.proofs.Closings.{closing-fine, swept-fine}
 use Rattle.closings.proofs.Keeping.{Whole, whole-roomy, clock-whole}
 use Rattle.satbox.proofs.Kept.{sweeping-whole}
 use Rattle.serving.proofs.RecordLaws.{Numbered, numbered-then, closing-numbered, swept-numbered, joining-numbered, opening-numbered}
+use Rattle.serving.proofs.Kept.{kept-by, kept-whole}
 use Rattle.serving.proofs.Passing.{Untested}
 use Rattle.serving.proofs.Recorded.{Recorded, recorded-then, closing-recorded, swept-recorded, joining-recorded, opening-recorded}
 use Rattle.promises.proofs.Passing.{Changing, served-by, tears-closable}
@@ -82,8 +83,7 @@ module _ (t : SatBox) (a : Asked) (l : Lists) (client : Client) (w : Whole t) wh
 
   grant-counted : Untested (sightOf t a) → (m : Method) → a .method ≡ m → Counted t (grant m t a l client .did)
   unfolding sightOf withSession
-  grant-counted p Options e =
-      cond-keeps (Counted t) (isNamed (sightOf t a)) _ (nothing t) (λ h. quiet-counted t _ refl refl) (λ h. quiet-counted t t refl refl)
+  grant-counted p Options e = quiet-counted t t refl refl
   grant-counted p Setup e =
       cond-keeps (λ (x : Serving). Counted t (x .did)) (isNamed (sightOf t a)) (retuning t a l) (seating t a l client) (λ h. retuning-counted)
       (λ h. cond-keeps (λ (x : Serving). Counted t (x .did)) (eqb (a .stream) 0) _ _ (λ z. opening-counted (merging t a l .stream) client t) (λ z. joining-counted (a .stream) client t))
@@ -95,11 +95,17 @@ module _ (t : SatBox) (a : Asked) (l : Lists) (client : Client) (w : Whole t) wh
   served-counted =
       served-by t a l client (λ (x : Serving). Counted t (x .did)) (λ p q. grant-counted p (a .method) refl) (λ e. quiet-counted t t refl refl)
 
+-- the session that is named is kept, and nothing is written of it
+kept-counted : (a : Asked) (t : SatBox) (d : Did) → Counted (kept a t) d → Counted t d
+unfolding withSession
+kept-counted a t d =
+    kept-by a t (λ u. Counted u d → Counted t d) (λ y p. record { held = p .held; sequence = p .sequence }) (λ n p. p)
+
 module _ (s : List ℕ) (address draw : ℕ) where
   pub answered-counted : (t : SatBox) → Whole t → Counted t (answered s address draw t .did)
   answered-counted t w =
       let a = askedOf (t .settings .frontends) s in
-      answered-by s address draw t (λ (x : Serving). Counted t (x .did)) (λ e. served-counted t a (listsOf s) (clientOf address draw a) w)
+      answered-by s address draw t (λ (x : Serving). Counted t (x .did)) (λ e. kept-counted a t _ (served-counted (kept a t) a (listsOf s) (clientOf address draw a) (kept-whole a t w)))
       (λ e. quiet-counted t t refl refl)
 
   pub requested-counted : (clock : ℕ) (t : SatBox) → Whole t → Counted t (requested s clock address draw t .did)
@@ -128,7 +134,7 @@ module _ (t : SatBox) (a : Asked) (l : Lists) (w : Whole t) (fit : Fit a) (clien
 
     grant-recorded : (m : Method) → a .method ≡ m → Recorded t (grant m t a l client .did)
     unfolding sightOf
-    grant-recorded Options e = cond-keeps (Recorded t) (isNamed (sightOf t a)) _ (nothing t) (λ h. refl) (λ h. refl)
+    grant-recorded Options e = refl
     grant-recorded Setup e =
         cond-keeps (λ (x : Serving). Recorded t (x .did)) (isNamed (sightOf t a)) (retuning t a l) (seating t a l client) (λ h. refl) (seating-recorded e)
     grant-recorded Play e = refl
@@ -144,7 +150,7 @@ module _ (reads : Reads) (s : List ℕ) (address draw : ℕ) (short : draw < 429
   answered-recorded t w =
       let a = askedOf (t .settings .frontends) s in
       answered-by s address draw t (λ (x : Serving). Recorded t (x .did))
-      (λ e. served-recorded t a (listsOf s) w (reads (t .settings .frontends) s e) (clientOf address draw a) refl short) (λ e. refl)
+      (λ e. served-recorded (kept a t) a (listsOf s) (kept-whole a t w) (reads (t .settings .frontends) s e) (clientOf address draw a) refl short) (λ e. refl)
 
   pub requested-recorded : (clock : ℕ) (t : SatBox) → Whole t → Recorded t (requested s clock address draw t .did)
   unfolding requested
