@@ -1,6 +1,6 @@
--- ORDER 1, AS BEFORE: on a box whose frontends reach all four sources every request does what document 01 says, with its rules as they were: the same
--- answer, table and records. Assumes nothing.
-use mathlib.Core.Path.{_≡_, refl, sym, _∙_, ap}
+-- ORDER 1, AS BEFORE: on a box whose frontends reach all four sources every request does what document 01 says where order 1 has other words: the same
+-- answer, table and records. The words of the other orders are as they are. Assumes nothing.
+use mathlib.Core.Path.{_≡_, refl, sym, _∙_, ap, subst}
 use mathlib.Core.Bool.{Bool, true, false, not, cond, _&&_, _||_, and-true}
 use mathlib.Core.List.{List, [], _∷_, map}
 use Prim.Native.Nat.{ℕ, zero, suc, _+_, _*_, _%_, _≤_, _<_}
@@ -37,10 +37,11 @@ use Rattle.steps.specs.Steps.{isPassed, isNamed, tableCase}
 use Rattle.steps.specs.declared.Sight.{Sight}
 use Rattle.steps.specs.declared.cases.Case.{Case}
 use Rattle.steps.specs.declared.cases.Case.the-variants.{Passed, Full, Reading}
-use Rattle.serving.specs.Serving.{hasPlace, hasRoom, guest, seatingAs, canJoin, joining, canOpen, opening, sourceOf, feedOf, merging, merges, mergeCase, isOpening, canSeat, caseOf, withSession, seatAfter, Serving, granted, keeping, retuning, grant, denied, served, clientOf, answered}
+use Rattle.serving.specs.Serving.{hasPlace, hasRoom, guest, seatingAs, canJoin, joining, canOpen, opening, sourceOf, feedOf, merging, merges, mergeCase, isOpening, canSeat, caseOf, withSession, kept, seatAfter, Serving, granted, retuning, grant, denied, served, clientOf, answered}
 use Rattle.serving.specs.declared.opening.Client.{Client}
 use Rattle.amended.proofs.Reaching.{AllReach, full-has, isFreeFrontend, feeds-if-free, lowest-free-taken, new-range, caseWithout, case-without}
 use Rattle.promises.proofs.Passing.{Changing, through, can-open, new-merged}
+use Rattle.serving.proofs.Kept.{kept-settings, kept-whole}
 use Rattle.serving.proofs.Branching.{merging-feed, merging-src}
 use Rattle.steps.proofs.ReplyLaws.{unread-passed}
 use Rattle.steps.proofs.Telling.{asked-fit}
@@ -93,7 +94,7 @@ seatingBefore t a l client =
     (granted (joining (a .stream) client t) (guest 0 (a .stream) client t))
 
 abbrev pub grantBefore : Method → SatBox → Asked → Lists → Client → Serving
-grantBefore Options t a l client = keeping t (sightOf t a)
+grantBefore Options t a l client = granted (nothing t) (sightOf t a .session)
 grantBefore Setup t a l client = cond (isNamed (sightOf t a)) (retuningBefore t a l) (seatingBefore t a l client)
 grantBefore Play t a l client = retuningBefore t a l
 grantBefore Teardown t a l client = granted (closing 1 (sightOf t a .place) t) (sightOf t a .session)
@@ -104,8 +105,9 @@ servedBefore t a l client = cond (isPassed (caseBefore t a l)) (grantBefore (a .
 
 unfoldable pub answeredBefore : List ℕ → ℕ → ℕ → SatBox → Serving
 answeredBefore s address draw t =
+    let a = askedOf (t .settings .frontends) s in
     cond (reading.isRead (requestRefusal (t .settings .frontends) s))
-    (servedBefore t (askedOf (t .settings .frontends) s) (listsOf s) (clientOf address draw (askedOf (t .settings .frontends) s)))
+    (servedBefore (kept a t) a (listsOf s) (clientOf address draw a))
     (denied t (Reading (requestRefusal (t .settings .frontends) s)))
 
 -- what becomes of a query, by the two rules that may refuse it, is the same for any streams
@@ -284,8 +286,9 @@ pub answered-as-before : (s : List ℕ) (address draw : ℕ) (t : SatBox) → Wh
 unfolding answered answeredBefore
 answered-as-before s address draw t w reach =
     let f = t .settings .frontends in
+    let a = askedOf f s in
     cond-alike (reading.isRead (requestRefusal f s)) (denied t (Reading (requestRefusal f s)))
-    (λ e. served-alike t w reach (askedOf f s) (listsOf s) (asked-fit f s) (clientOf address draw (askedOf f s)))
+    (λ e. served-alike (kept a t) (kept-whole a t w) (subst AllReach (sym (kept-settings a t)) reach) a (listsOf s) (asked-fit f s) (clientOf address draw a))
 
 -- ANY TABLE with such settings: it is well formed by document 01's rules, so that every call is refused, and done, as before
 unfoldable pub wellFormedBefore : SatBox → Bool

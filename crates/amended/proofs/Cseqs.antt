@@ -41,7 +41,7 @@ use Rattle.steps.specs.Replies.{grantedLines, replyText}
 use Rattle.steps.specs.declared.cases.Case.{Case}
 use Rattle.steps.specs.declared.cases.Case.the-variants.{Reading}
 use Rattle.steps.proofs.ReplyLaws.{status-small}
-use Rattle.serving.specs.Serving.{Serving, served, denied, clientOf, answered}
+use Rattle.serving.specs.Serving.{kept, Serving, served, denied, clientOf, answered}
 use Rattle.satbox.specs.Calls.{following, requested, answerOf}
 use Rattle.amended.proofs.Spellings.{Bare, all-digits, digits-text, one-spelling, line-first}
 
@@ -72,7 +72,7 @@ refusalBefore frontends s = not (reading.isRead (headBefore s)) gives headBefore
 unfoldable pub servedBefore : List ℕ → ℕ → ℕ → SatBox → Serving
 servedBefore s address draw t =
     let asked = askedOf (t .settings .frontends) s in
-    cond (reading.isRead (refusalBefore (t .settings .frontends) s)) (served t asked (listsOf s) (clientOf address draw asked))
+    cond (reading.isRead (refusalBefore (t .settings .frontends) s)) (served (kept asked t) asked (listsOf s) (clientOf address draw asked))
     (denied t (Reading (refusalBefore (t .settings .frontends) s)))
 
 unfoldable pub requestedBefore : List ℕ → ℕ → ℕ → ℕ → SatBox → Serving
