@@ -11,10 +11,11 @@ use lib.ListN.{length, getD, set}
 use lib.Seq.{getD-set-same, getD-set-other}
 use borrow.Author.Tests.{ne-eqb, eq-eqb, ltb-true, lt-ltb, le-ltb}
 use Rattle.scan.specs.Lists.{first}
-use Rattle.scan.proofs.Bools.{never, and-both}
+use Rattle.scan.proofs.Bools.{never, and-both, Case as Test, is as yes, isnt as no, case}
 use Rattle.aim.specs.declared.Method.{Method}
 use Rattle.aim.specs.declared.Method.the-variants.{Options, Setup, Play, Teardown, Other}
-use Rattle.reader.specs.Request.{methodOf}
+use Rattle.refusals.specs.declared.Refusal.the-variants as refusal
+use Rattle.reader.specs.Request.{methodOf, requestRefusal}
 use Rattle.stream.specs.Streams.{noStream, pastStream, blank, mergeOf}
 use Rattle.stream.specs.declared.Stream.{Stream}
 use Rattle.stream.specs.declared.Change.{Change}
@@ -38,7 +39,7 @@ use Rattle.serving.proofs.OpeningKeeps.{row}
 use Rattle.serving.proofs.Passing.{Untested, named-needed, own-live, own-stream, named-closable}
 use Rattle.serving.proofs.Branching.{merging-new, merging-live, merging-feed, merging-src}
 use Rattle.promises.proofs.Passing.{Changing, served-by, source, feed, can-join, can-open, new-merged}
-use Rattle.promises.proofs.Requests.{answered-by}
+use Rattle.promises.proofs.Requests.{answered-by, answered-still}
 use Rattle.promises.proofs.Keeps.{kept-closes}
 
 -- WHAT IS SAID. What is fixed when a box is made, F and C, and the clock are as they were
@@ -81,6 +82,14 @@ but last port playing s =
       owner = s .owner;
       playing = playing;
     }
+
+-- in u the session at a place has t's clock for its last time, with some port, playing or not, and some stream; every other is as it was, and nothing is
+-- written
+pub record Keeps (t u : SatBox) (place : ℕ) : Type 0 where
+  pub port : ℕ
+  pub playing : ℕ
+  pub stream : Stream
+  pub quietly : Quietly t u place (but (t .clock) port playing (sessionAt t place)) (sessionAt t place .stream) stream
 
 -- a session that opens at the table's clock, and does not play
 abbrev pub newcomer : ℕ → ℕ → ℕ → ℕ → ℕ → SatBox → Session
@@ -229,26 +238,16 @@ module _ (s : List ℕ) (address draw : ℕ) (t : SatBox) where
   abbrev u : SatBox
   u = answered s address draw t .did .satbox
 
-  module _ (w : Whole t) (passed : isPassed (answered s address draw t .case) ≡ true) where
-    granted-by : (P : Serving → Type 0) → (Untested (sightOf k a) → Changing k a l → P (grant (a .method) k a l (clientOf address draw a))) → P (answered s address draw t)
-    granted-by P f =
-        answered-by s address draw t (λ x. isPassed (x .case) ≡ true → P x)
-        (λ r. served-by k a l (clientOf address draw a) (λ x. isPassed (x .case) ≡ true → P x) (λ p q y. f p q) (λ n y. never y n)) (λ n y. never y n) passed
-
-    untested : Untested (sightOf k a)
-    untested = granted-by (λ x. Untested (sightOf k a)) (λ p q. p)
-
-    changing : Changing k a l
-    changing = granted-by (λ x. Changing k a l) (λ p q. q)
-
-    does : {m : Method} → methodOf s ≡ m → u ≡ grant m k a l (clientOf address draw a) .did .satbox
-    does e = granted-by (λ x. x .did .satbox ≡ grant (a .method) k a l (clientOf address draw a) .did .satbox) (λ p q. refl) ∙ ap (λ m. grant m k a l (clientOf address draw a) .did .satbox) e
-
+  module _ (w : Whole t) where
     -- WHERE A SESSION IS NAMED: what is done to it on the table where it is kept, and nothing else, is done to it on the one before
     module _ (h : place < 32) where
       there : sessionAt k place ≡ since a t
       unfolding withSession
       there = rw (kept-named a t h) (getD-set-same (t .sessions) place (since a t) noSession (omega (arith, w .places)))
+
+      -- there is its last time set; the rest of it stays, and its stream
+      keeps : Quietly t k place (but (t .clock) (old .port) (old .playing) old) (old .stream) (streamOf t (old .stream))
+      keeps = rw (kept-named a t h) (replaced-quietly t w h _ (old .stream))
 
       kept-quietly : {v : SatBox} {x : Session} {id : ℕ} {m : Stream} → Quietly k v place x id m → Quietly t v place x id m
       unfolding withSession
@@ -268,115 +267,153 @@ module _ (s : List ℕ) (address draw : ℕ) (t : SatBox) where
             sequence = q .sequence ∙ rw e;
           }
 
-      retunes : takesQuery (a .method) ≡ true → u ≡ withSession (sightOf k a .place) (seatAfter (sightOf k a)) (retuned k a l)
+    -- A REQUEST THAT A STEP AFTER THE 11TH REFUSES sets the last time of the session that it names, order 3; the rest of it stays, and its stream
+    pub refused-keeps : requestRefusal (t .settings .frontends) s ≡ refusal.Passed → isPassed (answered s address draw t .case) ≡ false → place < 32
+        → Quietly t u place (but (t .clock) (old .port) (old .playing) old) (old .stream) (streamOf t (old .stream))
+    refused-keeps read n h =
+        let left-is : u ≡ k = ap (λ (d : Did). d .satbox) (answered-still s address draw t n) ∙ rw read in
+        rw left-is (keeps h)
+
+    module _ (passed : isPassed (answered s address draw t .case) ≡ true) where
+      granted-by : (P : Serving → Type 0) → (Untested (sightOf k a) → Changing k a l → P (grant (a .method) k a l (clientOf address draw a))) → P (answered s address draw t)
+      granted-by P f =
+          answered-by s address draw t (λ x. isPassed (x .case) ≡ true → P x)
+          (λ r. served-by k a l (clientOf address draw a) (λ x. isPassed (x .case) ≡ true → P x) (λ p q y. f p q) (λ n y. never y n)) (λ n y. never y n) passed
+
+      untested : Untested (sightOf k a)
+      untested = granted-by (λ x. Untested (sightOf k a)) (λ p q. p)
+
+      changing : Changing k a l
+      changing = granted-by (λ x. Changing k a l) (λ p q. q)
+
+      does : {m : Method} → methodOf s ≡ m → u ≡ grant m k a l (clientOf address draw a) .did .satbox
+      does e = granted-by (λ x. x .did .satbox ≡ grant (a .method) k a l (clientOf address draw a) .did .satbox) (λ p q. refl) ∙ ap (λ m. grant m k a l (clientOf address draw a) .did .satbox) e
+
+      retunes : place < 32 → takesQuery (a .method) ≡ true → u ≡ withSession (sightOf k a .place) (seatAfter (sightOf k a)) (retuned k a l)
           → Quietly t u place (after (a .method)) (old .stream) (tuned t a l old)
       unfolding sightOf
-      retunes takes is =
+      retunes h takes is =
           let e = kept-place a t (a .session) in
           let q : Quietly k u (placeNamed (a .session) k) (after (a .method)) (sessionAt k (placeNamed (a .session) k) .stream) (tuned k a l (sessionAt k (placeNamed (a .session) k))) =
-          rw is (retuning-quietly k a l (clientOf address draw a) (kept-whole a t w) takes untested (rw e h) (rw (e, there))) in
+          rw is (retuning-quietly k a l (clientOf address draw a) (kept-whole a t w) takes untested (rw e h) (rw (e, there h))) in
           let g : tuned k a l (since a t) ≡ tuned t a l old = rw (kept-streams a t) in
-          kept-quietly (subst (λ m. Quietly k u place (after (a .method)) (old .stream) m) g (rw (e, there) at q))
+          kept-quietly h (subst (λ m. Quietly k u place (after (a .method)) (old .stream) m) g (rw (e, there h) at q))
 
-    -- OPTIONS NAMING A SESSION sets its last time to the clock; the rest of it stays, and its stream
-    pub options-refreshes : methodOf s ≡ Options → place < 32 → Quietly t u place (but (t .clock) (old .port) (old .playing) old) (old .stream) (streamOf t (old .stream))
-    options-refreshes e h = rw (does e, kept-named a t h) (replaced-quietly t w h _ (old .stream))
+      -- OPTIONS NAMING A SESSION sets its last time to the clock; the rest of it stays, and its stream
+      pub options-refreshes : methodOf s ≡ Options → place < 32 → Quietly t u place (but (t .clock) (old .port) (old .playing) old) (old .stream) (streamOf t (old .stream))
+      options-refreshes e h = rw (does e) (keeps h)
 
-    -- OPTIONS NAMING NONE changes nothing
-    pub options-alone : methodOf s ≡ Options → (place < 32 → ⊥) → u ≡ t
-    unfolding sightOf
-    options-alone e h = does e ∙ kept-alone a t (le-ltb place 32 (omega arith))
-
-    -- and so does any other method, which step 6 refuses, but for the session that it names
-    pub other-alone : methodOf s ≡ Other → u ≡ k
-    other-alone e = does e
-
-    -- SETUP IN A SESSION replaces only its port and, for the owner, merges the query; order 3: and sets its last time
-    pub setup-replaces : methodOf s ≡ Setup → place < 32 → Quietly t u place (but (t .clock) (portOf (a .transport)) (old .playing) old) (old .stream) (tuned t a l old)
-    unfolding sightOf
-    setup-replaces e h =
-        subst (λ m. Quietly t u place (after m) (old .stream) (tuned t a l old)) e
-        (retunes h (rw e) (does e ∙ rw (kept-place a t (a .session), lt-ltb place 32 h)))
-
-    -- PLAY marks the session playing and, for the owner, merges the query; order 3: and sets its last time
-    pub play-marks : methodOf s ≡ Play → Quietly t u place (but (t .clock) (old .port) 1 old) (old .stream) (tuned t a l old)
-    unfolding sightOf
-    play-marks e =
-        let h : place < 32 = ltb-true place 32 (rw (kept-place a t (a .session)) at (named-needed (sightOf k a) untested (rw e))) in
-        subst (λ m. Quietly t u place (after m) (old .stream) (tuned t a l old)) e (retunes h (rw e) (does e))
-
-    -- SETUP WITHOUT A SESSION takes the lowest free place, with the clock for its last time:
-    module _ (setup : methodOf s ≡ Setup) (stranger : place < 32 → ⊥) where
-      unnamed : isNamed (sightOf t a) ≡ false
+      -- OPTIONS NAMING NONE changes nothing
+      pub options-alone : methodOf s ≡ Options → (place < 32 → ⊥) → u ≡ t
       unfolding sightOf
-      unnamed = le-ltb place 32 (omega arith)
+      options-alone e h = does e ∙ kept-alone a t (le-ltb place 32 (omega arith))
 
-      alone : k ≡ t
-      alone = kept-alone a t unnamed
+      -- and so does any other method, which step 6 refuses, but for the session that it names
+      pub other-alone : methodOf s ≡ Other → u ≡ k
+      other-alone e = does e
 
-      free : Changing t a l
-      free = subst (λ x. Changing x a l) alone changing
-
-      placed : (b : Bool) → hasPlace t && b ≡ true → lowestPlace (t .sessions) < 32
-      placed b y = omega (arith, ltb-true (lowestPlace (t .sessions)) (length (t .sessions)) (and-both (hasPlace t) b y .0), w .places)
-
-      -- it joins the stream that it names, never owning it, and that stays;
-      pub setup-joins : (a .stream ≡ 0 → ⊥)
-          → Changes t u (lowestPlace (t .sessions)) (newcomer address draw (portOf (a .transport)) (a .stream) 0 t) (a .stream) (streamOf t (a .stream))
-      unfolding joining seatingAs noting reseated
-      setup-joins some =
-          let y = can-join t a l free setup unnamed some in
-          rw (does setup, alone, unnamed, ne-eqb (a .stream) 0 some, y) (changes-one w (placed _ y) refl (settled-same refl refl) refl (a .stream))
-
-      -- or it owns a new one, with the lowest free ID
-      pub setup-opens : a .stream ≡ 0
-          → Changes t u (lowestPlace (t .sessions)) (newcomer address draw (portOf (a .transport)) (lowestId (t .streams)) 1 t) (lowestId (t .streams)) (queried (blank (feed t a)) a l)
-      unfolding opening seatingAs noting reseated restreamed sightOf
-      setup-opens none =
-          let client = clientOf address draw a in
-          let id = lowestId (t .streams) in
-          let m = merging t a l .stream in
-          let y = can-open t a l free setup unnamed none in
-          let o = new-merged t a l free setup unnamed none in
-          let open-there : canOpen (m .values .src) (m .frontend) t ≡ true = rw (merging-src t a l client (sightOf t a) refl none o, merging-feed t a l client (sightOf t a) refl none) y in
-          subst (λ x. Changes t u (lowestPlace (t .sessions)) (newcomer address draw (portOf (a .transport)) id 1 t) id x)
-          (ap (λ (c : Change). c .stream) (merging-new t a l client (sightOf t a) refl none))
-          (rw (does setup, alone, unnamed, eq-eqb (a .stream) 0 none, open-there)
-          (changes-both w (placed _ y) refl (settled-same refl refl) id m refl
-          (getD-set-same (t .streams) (first isDead (t .streams)) m pastStream (row (source t a) (feed t a) t y w))))
-
-    -- TEARDOWN closes
-    module _ (teardown : methodOf s ≡ Teardown) where
-      closes : u ≡ closing 1 place t .satbox
+      -- SETUP IN A SESSION replaces only its port and, for the owner, merges the query; order 3: and sets its last time
+      pub setup-replaces : methodOf s ≡ Setup → place < 32 → Quietly t u place (but (t .clock) (portOf (a .transport)) (old .playing) old) (old .stream) (tuned t a l old)
       unfolding sightOf
-      closes = does teardown ∙ ap (λ (d : Did). d .satbox) (kept-closes a t 1)
+      setup-replaces e h =
+          subst (λ m. Quietly t u place (after m) (old .stream) (tuned t a l old)) e
+          (retunes h (rw e) (does e ∙ rw (kept-place a t (a .session), lt-ltb place 32 h)))
 
-      closable : Closable t place
+      -- PLAY marks the session playing and, for the owner, merges the query; order 3: and sets its last time
+      pub play-marks : methodOf s ≡ Play → Quietly t u place (but (t .clock) (old .port) 1 old) (old .stream) (tuned t a l old)
       unfolding sightOf
-      closable =
-          named-closable t w a (sightOf t a) refl (rw (kept-place a t (a .session)) at (named-needed (sightOf k a) untested (rw teardown)))
+      play-marks e =
+          let h : place < 32 = ltb-true place 32 (rw (kept-place a t (a .session)) at (named-needed (sightOf k a) untested (rw e))) in
+          subst (λ m. Quietly t u place (after m) (old .stream) (tuned t a l old)) e (retunes h (rw e) (does e))
 
-      -- the session that is named, and no other where it owns nothing;
-      pub teardown-leaves : old .owner ≡ 0 → Changes t u place noSession (old .stream) (streamOf t (old .stream))
-      unfolding closing closeOne noting reseated sightOf
-      teardown-leaves none =
-          rw (closes, eq-eqb (old .owner) 0 none)
-          (changes-one w (closable .below) refl (settled-same refl refl) refl (old .stream))
+      -- SETUP WITHOUT A SESSION takes the lowest free place, with the clock for its last time:
+      module _ (setup : methodOf s ≡ Setup) (stranger : place < 32 → ⊥) where
+        unnamed : isNamed (sightOf t a) ≡ false
+        unfolding sightOf
+        unnamed = le-ltb place 32 (omega arith)
 
-      -- and with an owner each that is on its stream
-      pub teardown-empties : (old .owner ≡ 0 → ⊥) → Empties t u (old .stream)
-      unfolding sightOf
-      teardown-empties some =
-          let id = old .stream in
-          let c = closable in
-          let f = closing-fine 1 place t c in
-          let ss = owner-sessions 1 place t c w some in
-          let ms = owner-streams 1 place t c w some in
-          rw closes
-          (record {
-            gone = λ i on. rw (ss, getD-clear id (t .sessions) i, on);
-            others = λ i off. rw (ss, getD-clear id (t .sessions) i, off);
-            stream = rw ms (stream-same id noStream (t .streams) (seated-live (t .sessions) (pastStream ∷ t .streams) (w .formed .seats) place (c .some)));
-            streams = λ k h. rw ms (stream-other id k noStream (t .streams) h);
-            settled = settled-same (f .settings) (f .clock);
-          })
+        alone : k ≡ t
+        alone = kept-alone a t unnamed
+
+        free : Changing t a l
+        free = subst (λ x. Changing x a l) alone changing
+
+        placed : (b : Bool) → hasPlace t && b ≡ true → lowestPlace (t .sessions) < 32
+        placed b y = omega (arith, ltb-true (lowestPlace (t .sessions)) (length (t .sessions)) (and-both (hasPlace t) b y .0), w .places)
+
+        -- it joins the stream that it names, never owning it, and that stays;
+        pub setup-joins : (a .stream ≡ 0 → ⊥)
+            → Changes t u (lowestPlace (t .sessions)) (newcomer address draw (portOf (a .transport)) (a .stream) 0 t) (a .stream) (streamOf t (a .stream))
+        unfolding joining seatingAs noting reseated
+        setup-joins some =
+            let y = can-join t a l free setup unnamed some in
+            rw (does setup, alone, unnamed, ne-eqb (a .stream) 0 some, y) (changes-one w (placed _ y) refl (settled-same refl refl) refl (a .stream))
+
+        -- or it owns a new one, with the lowest free ID
+        pub setup-opens : a .stream ≡ 0
+            → Changes t u (lowestPlace (t .sessions)) (newcomer address draw (portOf (a .transport)) (lowestId (t .streams)) 1 t) (lowestId (t .streams)) (queried (blank (feed t a)) a l)
+        unfolding opening seatingAs noting reseated restreamed sightOf
+        setup-opens none =
+            let client = clientOf address draw a in
+            let id = lowestId (t .streams) in
+            let m = merging t a l .stream in
+            let y = can-open t a l free setup unnamed none in
+            let o = new-merged t a l free setup unnamed none in
+            let open-there : canOpen (m .values .src) (m .frontend) t ≡ true = rw (merging-src t a l client (sightOf t a) refl none o, merging-feed t a l client (sightOf t a) refl none) y in
+            subst (λ x. Changes t u (lowestPlace (t .sessions)) (newcomer address draw (portOf (a .transport)) id 1 t) id x)
+            (ap (λ (c : Change). c .stream) (merging-new t a l client (sightOf t a) refl none))
+            (rw (does setup, alone, unnamed, eq-eqb (a .stream) 0 none, open-there)
+            (changes-both w (placed _ y) refl (settled-same refl refl) id m refl
+            (getD-set-same (t .streams) (first isDead (t .streams)) m pastStream (row (source t a) (feed t a) t y w))))
+
+      -- TEARDOWN closes
+      module _ (teardown : methodOf s ≡ Teardown) where
+        closes : u ≡ closing 1 place t .satbox
+        unfolding sightOf
+        closes = does teardown ∙ ap (λ (d : Did). d .satbox) (kept-closes a t 1)
+
+        closable : Closable t place
+        unfolding sightOf
+        closable =
+            named-closable t w a (sightOf t a) refl (rw (kept-place a t (a .session)) at (named-needed (sightOf k a) untested (rw teardown)))
+
+        -- the session that is named, and no other where it owns nothing;
+        pub teardown-leaves : old .owner ≡ 0 → Changes t u place noSession (old .stream) (streamOf t (old .stream))
+        unfolding closing closeOne noting reseated sightOf
+        teardown-leaves none =
+            rw (closes, eq-eqb (old .owner) 0 none)
+            (changes-one w (closable .below) refl (settled-same refl refl) refl (old .stream))
+
+        -- and with an owner each that is on its stream
+        pub teardown-empties : (old .owner ≡ 0 → ⊥) → Empties t u (old .stream)
+        unfolding sightOf
+        teardown-empties some =
+            let id = old .stream in
+            let c = closable in
+            let f = closing-fine 1 place t c in
+            let ss = owner-sessions 1 place t c w some in
+            let ms = owner-streams 1 place t c w some in
+            rw closes
+            (record {
+              gone = λ i on. rw (ss, getD-clear id (t .sessions) i, on);
+              others = λ i off. rw (ss, getD-clear id (t .sessions) i, off);
+              stream = rw ms (stream-same id noStream (t .streams) (seated-live (t .sessions) (pastStream ∷ t .streams) (w .formed .seats) place (c .some)));
+              streams = λ k h. rw ms (stream-other id k noStream (t .streams) h);
+              settled = settled-same (f .settings) (f .clock);
+            })
+
+    -- WHATEVER ITS METHOD AND ITS STATUS, order 3: "every request that passes step 11 and names an open session sets its last time", but one that closes it
+    pub names-keeps : requestRefusal (t .settings .frontends) s ≡ refusal.Passed → place < 32
+        → (methodOf s ≡ Teardown → isPassed (answered s address draw t .case) ≡ true → ⊥) → Keeps t u place
+    names-keeps read h untorn = by (case (isPassed (answered s address draw t .case)))
+      where
+        of : isPassed (answered s address draw t .case) ≡ true → (m : Method) → methodOf s ≡ m → Keeps t u place
+        of y Options e = record { port = _; playing = _; stream = _; quietly = options-refreshes y e h }
+        of y Setup e = record { port = _; playing = _; stream = _; quietly = setup-replaces y e h }
+        of y Play e = record { port = _; playing = _; stream = _; quietly = play-marks y e }
+        of y Teardown e = absurd (untorn e y)
+        of y Other e = rw (other-alone y e) (record { port = _; playing = _; stream = _; quietly = keeps h })
+
+        by : Test (isPassed (answered s address draw t .case)) → Keeps t u place
+        by (yes y) = of y (methodOf s) refl
+        by (no n) = record { port = _; playing = _; stream = _; quietly = refused-keeps read n h }
