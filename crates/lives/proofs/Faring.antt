@@ -1,7 +1,7 @@
--- What becomes of one session in any calls: it stays at its place, and its last time with it unless an OPTIONS names it; or a record says that it closed.
--- Assumes nothing.
+-- What becomes of one session in any calls: it stays at its place, and its last time with it unless a request that steps 1 to 10 let through names it; or
+-- a record says that it closed. Assumes nothing.
 use mathlib.Core.Path.{_≡_, refl, sym, _∙_, ap, subst}
-use mathlib.Core.Bool.{Bool, true}
+use mathlib.Core.Bool.{Bool, true, false}
 use mathlib.Core.List.{List, [], _∷_, _++_}
 use mathlib.Core.Logic.{_⊎_, inl, inr}
 use Prim.Native.Nat.{ℕ, suc, _+_, _-_, _≤_, _<_, max}
@@ -9,7 +9,7 @@ use native.Mathlib.Decide.{decLt}
 use native.Mathlib.Omega.{arith}
 use lib.Dec.{ltb}
 use lib.ListN.{length, getD, List·getD-eq-default}
-use borrow.Author.Tests.{eq-eqb, ne-eqb, eqb-true, ltb-true, lt-ltb, le-leb}
+use borrow.Author.Tests.{eq-eqb, ne-eqb, eqb-true, ltb-true, lt-ltb, le-ltb, le-leb}
 use Rattle.scan.specs.Lists.{all}
 use Rattle.scan.proofs.Bools.{never, and-both, both, by-cases, Case, is, isnt, case, Same, same, other, sames}
 use Rattle.aim.specs.declared.Method.{Method}
@@ -17,7 +17,10 @@ use Rattle.aim.specs.declared.Method.the-variants.{Options, Setup, Play, Teardo
 use Rattle.lines.specs.Lines.{headerLines}
 use Rattle.lines.specs.Headers.{valuesOf}
 use Rattle.reader.specs.Fields.{sessionOf}
-use Rattle.reader.specs.Request.{methodOf}
+use Rattle.refusals.specs.Refusals.{isRead}
+use Rattle.refusals.specs.declared.Refusal.the-variants as refusal
+use Rattle.reader.specs.Request.{methodOf, requestRefusal}
+use Rattle.reader.proofs.RequestLaws.{passed-is}
 use Rattle.reader.specs.declared.fields.Session.{Session as Sent}
 use Rattle.reader.specs.declared.fields.Session.the-variants.{Absent, Malformed, Named}
 use Rattle.journal.specs.declared.Record.{Record}
@@ -31,17 +34,18 @@ use Rattle.table.specs.declared.Outcome.{Outcome}
 use Rattle.table.specs.declared.Outcome.the-variants.{Done, Refused}
 use Rattle.table.proofs.Counts.{first-passes}
 use Rattle.table.proofs.Changes.{opened}
-use Rattle.steps.specs.Sights.{askedOf, sessionNumber, placeNamed}
+use Rattle.steps.specs.Sights.{askedOf, sessionNumber, placeNamed, sightOf}
 use Rattle.steps.specs.Steps.{isPassed}
 use Rattle.closings.specs.Closing.{Did, sweeping, atClock}
-use Rattle.serving.specs.Serving.{answered}
+use Rattle.serving.specs.Serving.{kept, Serving, answered}
 use Rattle.satbox.specs.Calls.{ifDone, tickOutcome, ticked, collectOutcome, collected, emptied, requestOutcome, requested, replied}
 use Rattle.closings.proofs.Keeping.{Whole, clock-whole}
+use Rattle.serving.proofs.Kept.{kept-alone}
 use Rattle.satbox.proofs.Kept.{sweeping-whole}
-use Rattle.promises.proofs.Requests.{answered-still}
-use Rattle.promises.proofs.Methods.{Changes, options-refreshes, options-alone, other-alone, setup-replaces, play-marks, setup-joins, setup-opens}
+use Rattle.promises.proofs.Requests.{answered-by, answered-still}
+use Rattle.promises.proofs.Methods.{Changes, options-alone, other-alone, play-marks, setup-joins, setup-opens, names-keeps}
 use Rattle.lives.specs.Calls.{lent, Call, request, tick, collect, order, isCall, Life, live, run, recordsOf}
-use Rattle.lives.specs.Closed.{isClosingOf, Fares, remains, closed, placeNamedBy, KeepsAlive, in-options}
+use Rattle.lives.specs.Closed.{isClosingOf, Fares, remains, closed, placeNamedBy, KeepsAlive, naming}
 use Rattle.lives.proofs.Settings.{sweeping-set, requested-set}
 use Rattle.lives.proofs.Holding.{Good}
 use Rattle.lives.proofs.Running.{live-good}
@@ -49,7 +53,7 @@ use Rattle.lives.proofs.Fates.{Fate, stays, leaves, any-left, any-right
 use Rattle.lives.proofs.Sweeps.{swept-fates}
 use Rattle.lives.proofs.Keepers.{any-less}
 use Rattle.lives.proofs.Young.{Young, run-young}
-use Rattle.lives.proofs.Teardowns.{answered-torn}
+use Rattle.lives.proofs.Teardowns.{answered-torn, Tearing, tearing, not-tearing, whether-tearing}
 
 any-more : (p q : Record → Bool) → ((r : Record) → p r ≡ true → q r ≡ true) → (rs : List Record) → any p rs ≡ true → Case (any q rs) → any q rs ≡ true
 any-more p q h rs y (is z) = z
@@ -115,45 +119,62 @@ module _ (n i : ℕ) (some : n ≡ 0 → ⊥) (P : ℕ → Type 0) where
     alone : {u : SatBox} → u ≡ t → (rs : List Record) → Fares n i P u rs
     alone e rs = rw e (remains a p)
 
-    module _ (passed : isPassed (answered s address draw t .case) ≡ true) (kept : methodOf s ≡ Options → placeNamedBy s t ≡ i → P (t .clock)) where
-      abbrev rs : List Record
-      rs = answered s address draw t .did .records
+    abbrev u : SatBox
+    u = answered s address draw t .did .satbox
 
-      at-place : i ≡ placeNamedBy s t → sessionAt t (placeNamedBy s t) .number ≡ n
-      at-place e = subst (λ k. sessionAt t k .number ≡ n) e a
+    abbrev rs : List Record
+    rs = answered s address draw t .did .records
 
-      last-at : i ≡ placeNamedBy s t → P (sessionAt t (placeNamedBy s t) .last)
-      last-at e = subst (λ k. P (sessionAt t k .last)) e p
+    at-place : i ≡ placeNamedBy s t → sessionAt t (placeNamedBy s t) .number ≡ n
+    at-place e = subst (λ k. sessionAt t k .number ≡ n) e a
 
-      options-fares : methodOf s ≡ Options → Case (ltb (placeNamedBy s t) 32) → Fares n i P (answered s address draw t .did .satbox) rs
-      options-fares m (is y) =
-          changes-fares (options-refreshes s address draw t w passed m (ltb-true _ _ y) .changes) a p (λ e. (at-place e, kept m (sym e))) rs (sames _ _)
-      options-fares m (isnt y) = alone (options-alone s address draw t w passed m (λ h. never (lt-ltb _ _ h) y)) rs
+    -- ONE THAT IS REFUSED by steps 1 to 10 leaves it
+    unread-fares : isRead (requestRefusal (t .settings .frontends) s) ≡ false → Fares n i P u rs
+    unread-fares =
+        answered-by s address draw t (λ (x : Serving). isRead (requestRefusal (t .settings .frontends) s) ≡ false → Fares n i P (x .did .satbox) (x .did .records))
+        (λ e r. never (ap isRead e) r) (λ e r. remains a p)
 
-      setup-fares : methodOf s ≡ Setup → Case (ltb (placeNamedBy s t) 32) → Same (askedOf (t .settings .frontends) s .stream) 0 → Fares n i P (answered s address draw t .did .satbox) rs
-      setup-fares m (is y) k =
-          changes-fares (setup-replaces s address draw t w passed m (ltb-true _ _ y) .changes) a p (λ e. (at-place e, last-at e)) rs (sames _ _)
-      setup-fares m (isnt y) (same k) =
-          changes-fares (setup-opens s address draw t w passed m (λ h. never (lt-ltb _ _ h) y) k) a p (λ e. absurd (taken e)) rs (sames _ _)
-      setup-fares m (isnt y) (other k) =
-          changes-fares (setup-joins s address draw t w passed m (λ h. never (lt-ltb _ _ h) y) k) a p (λ e. absurd (taken e)) rs (sames _ _)
-
-      teardown-fares : methodOf s ≡ Teardown → Fares n i P (answered s address draw t .did .satbox) rs
-      teardown-fares m =
-          let torn = answered-torn s address draw t w m passed in
+    module _ (read : requestRefusal (t .settings .frontends) s ≡ refusal.Passed) where
+      -- ONE THAT NAMES AN OPEN SESSION keeps it, or is a TEARDOWN that closes it
+      teardown-fares : methodOf s ≡ Teardown → isPassed (answered s address draw t .case) ≡ true → Fares n i P u rs
+      teardown-fares m y =
+          let torn = answered-torn s address draw t w m y in
           subst (λ (d : Did). Fares n i P (d .satbox) (d .records)) (sym (torn .is)) (fate-fares (closing-fates 1 (placeNamedBy s t) t (torn .closable) .each i) refl a p)
 
-      method-fares : (m : Method) → methodOf s ≡ m → Fares n i P (answered s address draw t .did .satbox) rs
-      method-fares Options e = options-fares e (case _)
-      method-fares Setup e = setup-fares e (case _) (sames _ _)
-      method-fares Play e = changes-fares (play-marks s address draw t w passed e .changes) a p (λ e. (at-place e, last-at e)) rs (sames _ _)
-      method-fares Teardown e = teardown-fares e
-      method-fares Other e = alone (other-alone s address draw t w passed e) rs
+      named-fares : (placeNamedBy s t ≡ i → P (t .clock)) → placeNamedBy s t < 32 → Tearing s address draw t → Fares n i P u rs
+      named-fares kept h (tearing m y) = teardown-fares m y
+      named-fares kept h (not-tearing f) =
+          changes-fares (names-keeps s address draw t w read h f .quietly .changes) a p (λ e. (at-place e, kept (sym e))) rs (sames _ _)
 
-    answered-fares : (methodOf s ≡ Options → placeNamedBy s t ≡ i → P (t .clock)) → Case (isPassed (answered s address draw t .case))
-        → Fares n i P (answered s address draw t .did .satbox) (answered s address draw t .did .records)
-    answered-fares kept (is y) = method-fares y kept (methodOf s) refl
-    answered-fares kept (isnt y) = rw (answered-still s address draw t y) (remains a p)
+      -- ONE THAT NAMES NONE leaves it too
+      module _ (none : placeNamedBy s t < 32 → ⊥) where
+        stays-as : u ≡ kept (askedOf (t .settings .frontends) s) t → Fares n i P u rs
+        unfolding sightOf
+        stays-as e = alone (e ∙ kept-alone (askedOf (t .settings .frontends) s) t (le-ltb (placeNamedBy s t) 32 (omega arith))) rs
+
+        setup-fares : methodOf s ≡ Setup → isPassed (answered s address draw t .case) ≡ true → Same (askedOf (t .settings .frontends) s .stream) 0 → Fares n i P u rs
+        setup-fares m y (same k) = changes-fares (setup-opens s address draw t w y m none k) a p (λ e. absurd (taken e)) rs (sames _ _)
+        setup-fares m y (other k) = changes-fares (setup-joins s address draw t w y m none k) a p (λ e. absurd (taken e)) rs (sames _ _)
+
+        stranger-fares : (m : Method) → methodOf s ≡ m → isPassed (answered s address draw t .case) ≡ true → Fares n i P u rs
+        stranger-fares Options e y = alone (options-alone s address draw t w y e none) rs
+        stranger-fares Setup e y = setup-fares e y (sames _ _)
+        stranger-fares Play e y =
+            changes-fares (play-marks s address draw t w y e .changes) a p (λ z. absurd (none (omega (arith, z, inside t w a)))) rs (sames _ _)
+        stranger-fares Teardown e y = teardown-fares e y
+        stranger-fares Other e y = stays-as (other-alone s address draw t w y e)
+
+        refused-fares : isPassed (answered s address draw t .case) ≡ false → Fares n i P u rs
+        refused-fares y = stays-as (ap (λ (d : Did). d .satbox) (answered-still s address draw t y) ∙ rw read)
+
+    answered-fares : (requestRefusal (t .settings .frontends) s ≡ refusal.Passed → placeNamedBy s t ≡ i → P (t .clock)) → Fares n i P u rs
+    answered-fares kept = by (case _) (case (ltb (placeNamedBy s t) 32)) (case _)
+      where
+        by : Case (isRead (requestRefusal (t .settings .frontends) s)) → Case (ltb (placeNamedBy s t) 32) → Case (isPassed (answered s address draw t .case)) → Fares n i P u rs
+        by (isnt r) c d = unread-fares r
+        by (is r) (is y) d = let read = passed-is _ r in named-fares read (kept read) (ltb-true _ _ y) (whether-tearing s address draw t)
+        by (is r) (isnt z) (is y) = stranger-fares (passed-is _ r) (λ h. never (lt-ltb _ _ h) z) (methodOf s) refl y
+        by (is r) (isnt z) (isnt y) = refused-fares (passed-is _ r) (λ h. never (lt-ltb _ _ h) z) y
 
   -- THE CALLS, and any run of them
   more-fares : {t : SatBox} (qs : List Record) {rs : List Record} → Fares n i P t rs → Fares n i P t (qs ++ rs)
@@ -174,7 +195,7 @@ module _ (n i : ℕ) (some : n ≡ 0 → ⊥) (P : ℕ → Type 0) where
     swept-fares clock = fate-fares (swept-fates (atClock clock t) (clock-whole clock t w) .each i) refl a p
 
     requested-fares : (s : List ℕ) (clock address draw : ℕ)
-        → (methodOf s ≡ Options → sessionNumber (sessionOf (valuesOf 1 (headerLines s))) ≡ n → P (max (t .clock) clock))
+        → (requestRefusal (t .settings .frontends) s ≡ refusal.Passed → sessionNumber (sessionOf (valuesOf 1 (headerLines s))) ≡ n → P (max (t .clock) clock))
         → Fares n i P (requested s clock address draw t .did .satbox) (requested s clock address draw t .did .records)
     unfolding requested
     requested-fares s clock address draw kept =
@@ -182,12 +203,13 @@ module _ (n i : ℕ) (some : n ≡ 0 → ⊥) (P : ℕ → Type 0) where
         let u = sweeping-whole clock t w in
         then-fares (swept-fares clock)
         (λ b q. answered-fares s address draw v u b q
-        (λ m e.
+        (λ r e.
         let l : placeNamedBy s v < 32 = omega (arith, inside v u b) in
+        let read : requestRefusal (t .settings .frontends) s ≡ refusal.Passed = rw (sweeping-set clock t w .settings) at r in
         subst P (sym (sweeping-set clock t w .clock))
-        (kept m (sym (named-number v (u .places) (sessionOf (valuesOf 1 (headerLines s))) l) ∙ (ap (λ k. sessionAt v k .number) e ∙ b)))) (case _))
+        (kept read (sym (named-number v (u .places) (sessionOf (valuesOf 1 (headerLines s))) l) ∙ (ap (λ k. sessionAt v k .number) e ∙ b)))))
 
-  -- from a clock c on, at each later clock P holds where an OPTIONS names it
+  -- from a clock c on, at each later clock P holds where a request names it
   module _ (c : ℕ) where
     emptied-fares : (o : Outcome) {t : SatBox} → Fares n i P t [] → Fares n i P (ifDone o (emptied t) t) []
     unfolding emptied
@@ -195,22 +217,22 @@ module _ (n i : ℕ) (some : n ≡ 0 → ⊥) (P : ℕ → Type 0) where
     emptied-fares Done (closed y) = closed y
     emptied-fares (Refused r) f = f
 
-    live-fares : {settings : Settings} {x : Life} → Good settings x → c ≤ x .satbox .clock → (k : Call) → (KeepsAlive n k → (m : ℕ) → c ≤ m → P m)
+    live-fares : {settings : Settings} {x : Life} → Good settings x → c ≤ x .satbox .clock → (k : Call) → (KeepsAlive (settings .frontends) n k → (m : ℕ) → c ≤ m → P m)
         → sessionAt (x .satbox) i .number ≡ n → P (sessionAt (x .satbox) i .last) → Fares n i P (live k x .satbox) (live k x .records)
     unfolding live replied ticked collected
     live-fares {x = x} g now (request s clock address draw b l) kept a p =
         done-fares (requestOutcome (x .satbox) (lent l (x .journal)) b)
-        (requested-fares (x .satbox) (g .whole) a p s clock address draw (λ m e. kept (in-options m e) _ (omega arith))) (remains a p)
+        (requested-fares (x .satbox) (g .whole) a p s clock address draw (λ r e. kept (naming (rw (g .set) at r) e) _ (omega arith))) (remains a p)
     live-fares {x = x} g now (tick clock l) kept a p =
         done-fares (tickOutcome (x .satbox) (lent l (x .journal))) (swept-fares (x .satbox) (g .whole) a p clock) (remains a p)
     live-fares {x = x} g now (collect b l) kept a p = emptied-fares (collectOutcome (x .satbox) (lent l (x .journal)) b) (remains a p)
     live-fares g now (order f) kept a p = remains a p
 
-    abbrev Unkept : List Call → Type 0
-    Unkept ks = (i : ℕ) → KeepsAlive n (getD ks i (order 0)) → ⊥
+    abbrev Unkept : ℕ → List Call → Type 0
+    Unkept frontends ks = (i : ℕ) → KeepsAlive frontends n (getD ks i (order 0)) → ⊥
 
     pub run-fares : {settings : Settings} (ks : List Call) {x : Life} → all (isCall (settings .size)) ks ≡ true → Good settings x → c ≤ x .satbox .clock
-        → ((m : ℕ) → c ≤ m → P m) ⊎ Unkept ks
+        → ((m : ℕ) → c ≤ m → P m) ⊎ Unkept (settings .frontends) ks
         → sessionAt (x .satbox) i .number ≡ n → P (sessionAt (x .satbox) i .last) → Fares n i P (run ks x .satbox) (recordsOf ks x)
     run-fares [] e g now kept a p = remains a p
     run-fares {settings = settings} (k ∷ ks) {x} e g now kept a p =
@@ -218,17 +240,17 @@ module _ (n i : ℕ) (some : n ≡ 0 → ⊥) (P : ℕ → Type 0) where
         then-fares (live-fares g now k (first-kept kept) a p)
         (λ b r. run-fares ks (q .1) (live-good g k (q .0)) (clock-later g k now) (rest-kept kept) b r)
       where
-        first-kept : ((m : ℕ) → c ≤ m → P m) ⊎ Unkept (k ∷ ks) → KeepsAlive n k → (m : ℕ) → c ≤ m → P m
+        first-kept : ((m : ℕ) → c ≤ m → P m) ⊎ Unkept (settings .frontends) (k ∷ ks) → KeepsAlive (settings .frontends) n k → (m : ℕ) → c ≤ m → P m
         first-kept (inl f) y = f
         first-kept (inr z) y = absurd (z 0 y)
 
-        rest-kept : ((m : ℕ) → c ≤ m → P m) ⊎ Unkept (k ∷ ks) → ((m : ℕ) → c ≤ m → P m) ⊎ Unkept ks
+        rest-kept : ((m : ℕ) → c ≤ m → P m) ⊎ Unkept (settings .frontends) (k ∷ ks) → ((m : ℕ) → c ≤ m → P m) ⊎ Unkept (settings .frontends) ks
         rest-kept (inl f) = inl f
         rest-kept (inr z) = inr (λ i. z (suc i))
 
 -- WHOM NOTHING KEEPS keeps its last time; and once the clock is 60 later, a record says that it closed: nothing that is open has expired
 module _ {settings : Settings} {x : Life} (g : Good settings x) (young : Young (x .satbox .clock) (x .satbox)) (i : ℕ) (some : isOpen (sessionAt (x .satbox) i) ≡ true)
-    (ds : List Call) (calls : all (isCall (settings .size)) ds ≡ true) (unkept : (k : ℕ) → KeepsAlive (sessionAt (x .satbox) i .number) (getD ds k (order 0)) → ⊥) where
+    (ds : List Call) (calls : all (isCall (settings .size)) ds ≡ true) (unkept : (k : ℕ) → KeepsAlive (settings .frontends) (sessionAt (x .satbox) i .number) (getD ds k (order 0)) → ⊥) where
   abbrev old : Session
   old = sessionAt (x .satbox) i
 

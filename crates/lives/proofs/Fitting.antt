@@ -134,7 +134,7 @@ answered-fitting s address draw short t w =
       changed = λ place s k u r. changed-fitting place s (k .alike .number) r;
       joined = λ id client e. joining-fitting id client t (rw e short);
       opened = λ m client e. opening-fitting m client t (rw e short);
-      closed = λ tears place c. closing-fitting 1 place t c;
+      closed = λ tears passed place c. closing-fitting 1 place t c;
     })
 
 -- A REQUEST

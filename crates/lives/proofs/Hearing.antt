@@ -3,7 +3,7 @@
 use mathlib.Core.Path.{_≡_, refl, sym, _∙_, ap, subst}
 use mathlib.Core.Bool.{Bool, true, false, not, _&&_, _||_}
 use mathlib.Core.List.{List, [], _∷_}
-use mathlib.Core.Logic.{_⊎_, inl, inr}
+use mathlib.Core.Logic.{inl}
 use Prim.Native.Nat.{ℕ, zero, suc, _+_, _-_, _≤_, _<_, max}
 use lib.ListN.{length, getD, set}
 use lib.Seq.{getD-set-other}
@@ -12,11 +12,12 @@ use lib.Dec.{eqb, leb}
 use borrow.Author.Tests.{eq-eqb, ne-eqb, eqb-true, leb-true, le-leb, lt-ltb}
 use Rattle.scan.specs.Lists.{all}
 use Rattle.scan.proofs.Bools.{never, and-both, Case, is, isnt, case, Same, same, other, sames, cond-keeps}
-use Rattle.aim.specs.declared.Method.the-variants.{Options}
-use Rattle.reader.specs.Request.{methodOf}
+use Rattle.aim.specs.declared.Method.the-variants.{Teardown}
+use Rattle.refusals.specs.declared.Refusal.the-variants as refusal
+use Rattle.reader.specs.Request.{methodOf, requestRefusal}
 use Rattle.journal.specs.declared.Record.{Record}
 use Rattle.stream.specs.declared.Stream.{Stream}
-use Rattle.table.specs.Table.{count, noSession, hasNumber, isOpen, sessionAt, streamOf, isOn}
+use Rattle.table.specs.Table.{count, noSession, hasNumber, isOpen, sessionAt, isOn}
 use Rattle.finding.specs.Finding.{lowestPlace, lowestId}
 use Rattle.table.specs.declared.Session.{Session}
 use Rattle.table.specs.declared.Settings.{Settings}
@@ -38,16 +39,17 @@ use Rattle.closings.proofs.Leaving.{leaving, joiner-records, owner-records}
 use Rattle.closings.proofs.Runs.{upto-holds}
 use Rattle.satbox.proofs.Kept.{sweeping-whole}
 use Rattle.serving.proofs.Passing.{named-closable}
-use Rattle.promises.proofs.Methods.{Changes, but, options-refreshes}
+use Rattle.promises.proofs.Methods.{Changes, but, Keeps, names-keeps}
 use Rattle.lives.specs.Calls.{Lent, lent, Call, request, tick, collect, order, isCall, Life, live, run, recordsOf}
-use Rattle.lives.specs.Closed.{isTimeOut, Fares, placeNamedBy}
+use Rattle.lives.specs.Closed.{isTimeOut, Fares, placeNamedBy, TearsDown, in-teardown}
 use Rattle.lives.proofs.Requests.{Kin, Retuned, retuned-same, answered-holds}
-use Rattle.lives.proofs.Settings.{sweeping-set}
+use Rattle.lives.proofs.Settings.{sweeping-set, requested-set}
 use Rattle.lives.proofs.Fitting.{all-both}
 use Rattle.lives.proofs.Holding.{Good}
 use Rattle.lives.proofs.Running.{live-good}
 use Rattle.lives.proofs.Faring.{run-fares}
 use Rattle.lives.proofs.Fates.{Fate, stays, leaves, closing-fates}
+use Rattle.lives.proofs.Teardowns.{Tearing, tearing, not-tearing, whether-tearing, answered-torn, torn-closed}
 
 -- whoever has the number n was heard of at c or later
 abbrev pub Heard : ℕ → ℕ → SatBox → Type 0
@@ -141,16 +143,12 @@ module _ (n c : ℕ) (some : n ≡ 0 → ⊥) where
         cond-keeps (Ages t) (canOpen (m .values .src) (m .frontend) t) (seated 1 s (restreamed id m t)) (nothing t)
         (λ e h. record { clock = refl; heard = set-heard (lowestPlace (t .sessions)) s (λ z. now) h; late = refl }) (λ e. ages-nothing t)
 
-    kin-heard : (s old : Session) → (old .number ≡ n → c ≤ old .last) → s .number ≡ old .number → (s .last ≡ old .last) ⊎ (s .last ≡ t .clock) → s .number ≡ n → c ≤ s .last
-    kin-heard s old h e (inl k) z = rw k (h (sym e ∙ z))
-    kin-heard s old h e (inr k) z = rw k now
-
     changed-ages : (place : ℕ) (s : Session) → Kin (t .clock) s (sessionAt t place) → (u : SatBox) → Retuned t u → Ages t (nothing (withSession place s u))
     unfolding withSession
     changed-ages place s k u r h =
         record {
           clock = retuned-same r .1;
-          heard = rw (retuned-same r .0) (set-heard place s (kin-heard s (sessionAt t place) (h place) (k .alike .number) (k .last)) h);
+          heard = rw (retuned-same r .0) (set-heard place s (λ z. rw (k .last) now) h);
           late = refl;
         }
 
@@ -162,7 +160,7 @@ module _ (n c : ℕ) (some : n ≡ 0 → ⊥) where
           changed = changed-ages;
           joined = λ id client e. joining-ages id client;
           opened = λ m client e. opening-ages m client;
-          closed = λ tears place k. closing-ages 1 place t w (λ z. absurd (omega arith)) k;
+          closed = λ tears passed place k. closing-ages 1 place t w (λ z. absurd (omega arith)) k;
         })
 
   -- THE CALLS, and any run of them
@@ -215,7 +213,7 @@ module _ (n c : ℕ) (some : n ≡ 0 → ⊥) where
         late = all-both (isLate n c) (live k x .records) (recordsOf ks (live k x)) (a .late) (b .late);
       }
 
--- AN OPTIONS THAT NAMES A SESSION: it has been heard of at the clock, and no other session has its number
+-- A REQUEST THAT NAMES AN OPEN SESSION: it has been heard of at the clock, and no other session has its number
 once : (t : SatBox) → Whole t → (i k : ℕ) → i < 32 → (sessionAt t i .number ≡ 0 → ⊥) → (k ≡ i → ⊥) → sessionAt t k .number ≡ sessionAt t i .number → ⊥
 once t w i k l some away e =
     let n = sessionAt t i .number in
@@ -251,18 +249,20 @@ module _ {settings : Settings} {x : Life} (g : Good settings x) (s : List ℕ) (
   abbrev c : Call
   c = request s clock address draw b l
 
-  module _ (done : live c x .outcome ≡ Done) (options : methodOf s ≡ Options) (passed : isPassed (requested s clock address draw (x .satbox) .case) ≡ true)
-      (named : placeNamedBy s v < 32) where
+  module _ (done : live c x .outcome ≡ Done) (read : requestRefusal (settings .frontends) s ≡ refusal.Passed) (named : placeNamedBy s v < 32) where
     w : Whole v
     w = sweeping-whole clock (x .satbox) (g .whole)
 
-    changes : Changes v (answered s address draw v .did .satbox) (placeNamedBy s v) (but (v .clock) (kept .port) (kept .playing) kept) (kept .stream) (streamOf v (kept .stream))
-    unfolding requested
-    changes = options-refreshes s address draw v w passed options named .changes
+    -- read by the box's own frontends
+    read-there : requestRefusal (v .settings .frontends) s ≡ refusal.Passed
+    read-there = rw (sweeping-set clock (x .satbox) (g .whole) .settings, g .set) read
 
     some : kept .number ≡ 0 → ⊥
     unfolding sightOf
     some = let a = askedOf (v .settings .frontends) s in named-closable v w a (sightOf v a) refl (lt-ltb (placeNamedBy s v) 32 named) .some
+
+    keeps : (methodOf s ≡ Teardown → isPassed (answered s address draw v .case) ≡ true → ⊥) → Keeps v (answered s address draw v .did .satbox) (placeNamedBy s v)
+    keeps = names-keeps s address draw v w read-there named
 
     after-is : live c x .satbox ≡ answered s address draw v .did .satbox
     unfolding live replied requested
@@ -273,20 +273,41 @@ module _ {settings : Settings} {x : Life} (g : Good settings x) (s : List ℕ) (
     now-is = sweeping-set clock (x .satbox) (g .whole) .clock
 
     now : max (x .satbox .clock) clock ≤ live c x .satbox .clock
-    unfolding live
-    now = rw (after-is, changes .settled .clock, now-is) (omega arith)
+    unfolding live requested
+    now = rw (after-is, requested-set s clock address draw (x .satbox) (g .whole) .clock) (omega arith)
+
+    -- after it whoever has the number was heard of: it is kept, or closed
+    torn-heard : methodOf s ≡ Teardown → isPassed (answered s address draw v .case) ≡ true → Heard (kept .number) (v .clock) (answered s address draw v .did .satbox)
+    torn-heard m y i z = by (sames i (placeNamedBy s v)) fate
+      where
+        after : Did
+        after = answered s address draw v .did
+
+        fate : Fate v after (sessionAt v i) (sessionAt (after .satbox) i)
+        fate =
+            let torn = answered-torn s address draw v w m y in
+            subst (λ (d : Did). Fate v d (sessionAt v i) (sessionAt (d .satbox) i)) (sym (torn .is)) (closing-fates 1 (placeNamedBy s v) v (torn .closable) .each i)
+
+        by : Same i (placeNamedBy s v) → Fate v after (sessionAt v i) (sessionAt (after .satbox) i) → v .clock ≤ sessionAt (after .satbox) i .last
+        by (same e) f = absurd (some (sym z ∙ ap (λ k. sessionAt (after .satbox) k .number) e ∙ ap (λ (r : Session). r .number) (torn-closed s address draw v w m y .free)))
+        by (other e) (stays q k) = absurd (once v w (placeNamedBy s v) i named some e (ap (λ (r : Session). r .number) (sym q) ∙ z))
+        by (other e) (leaves q k l) = absurd (some (sym z ∙ ap (λ (r : Session). r .number) q))
+
+    heard-there : Tearing s address draw v → Heard (kept .number) (v .clock) (answered s address draw v .did .satbox)
+    heard-there (tearing m y) = torn-heard m y
+    heard-there (not-tearing f) = λ i. refreshed-heard w named some (keeps f .quietly .changes) i (sames _ _)
 
     module _ (ds : List Call) (e : all (isCall (settings .size)) (c ∷ ds) ≡ true) where
       pub kept-hears : Hears (kept .number) (max (x .satbox .clock) clock) (run ds (live c x) .satbox) (recordsOf ds (live c x))
       unfolding live
       kept-hears =
           let p = and-both (isCall (settings .size) c) _ e in
-          run-hears (kept .number) (max (x .satbox .clock) clock) some ds (p .1) (live-good g c (p .0)) now
-          (rw (after-is, ← now-is) (λ i. refreshed-heard w named some changes i (sames _ _)))
+          run-hears (kept .number) (max (x .satbox .clock) clock) some ds (p .1) (live-good g c (p .0)) now (rw (after-is, ← now-is) (heard-there (whether-tearing s address draw v)))
 
-      pub kept-fares : Fares (kept .number) (placeNamedBy s v) (λ last. max (x .satbox .clock) clock ≤ last) (run ds (live c x) .satbox) (recordsOf ds (live c x))
-      unfolding live
-      kept-fares =
+      pub kept-fares : (TearsDown (x .satbox) c → ⊥) → Fares (kept .number) (placeNamedBy s v) (λ last. max (x .satbox .clock) clock ≤ last) (run ds (live c x) .satbox) (recordsOf ds (live c x))
+      unfolding live requested
+      kept-fares untorn =
           let p = and-both (isCall (settings .size) c) _ e in
+          let k = keeps (λ m y. untorn (in-teardown m y)) .quietly .changes .session in
           run-fares (kept .number) (placeNamedBy s v) some (λ last. max (x .satbox .clock) clock ≤ last) (max (x .satbox .clock) clock) ds (p .1) (live-good g c (p .0)) now (inl (λ m h. h))
-          (rw (after-is, changes .session)) (rw (after-is, changes .session, now-is) (omega arith))
+          (rw (after-is, k)) (rw (after-is, k, now-is) (omega arith))

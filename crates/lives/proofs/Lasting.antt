@@ -10,8 +10,7 @@ use lib.Seq.{getD-set-other}
 use borrow.Author.Tests.{eq-eqb, eqb-true}
 use Rattle.scan.specs.Lists.{first}
 use Rattle.scan.proofs.Bools.{and-both, both, or-right, Case, is, isnt, case, cond-keeps}
-use Rattle.aim.specs.declared.Method.{Method}
-use Rattle.aim.specs.declared.Method.the-variants.{Options, Setup, Play, Teardown, Other}
+use Rattle.aim.specs.declared.Method.the-variants.{Teardown}
 use Rattle.reader.specs.Request.{methodOf}
 use Rattle.journal.specs.declared.Record.{Record}
 use Rattle.stream.specs.Streams.{pastStream}
@@ -32,14 +31,13 @@ use Rattle.serving.specs.declared.opening.Client.{Client}
 use Rattle.satbox.specs.Calls.{ifDone, ticked, collected, emptied, requested, replied}
 use Rattle.closings.proofs.Keeping.{Whole, clock-whole}
 use Rattle.satbox.proofs.Kept.{sweeping-whole}
-use Rattle.promises.proofs.Requests.{answered-still}
 use Rattle.lives.specs.Calls.{Lent, Call, request, tick, collect, order, Life, live}
 use Rattle.lives.specs.Closed.{takes, saysClosed, unnumbered, sweepClosings, teardownClosings, placeNamedBy, Sweeps, in-request, in-tick, Stays, TearsDown, in-teardown, Ends, expired, torn}
 use Rattle.lives.proofs.Requests.{Kin, Retuned, retuned-same, answered-holds}
 use Rattle.lives.proofs.Seating.{place-free}
 use Rattle.lives.proofs.Taking.{one-owner, closing-took}
 use Rattle.lives.proofs.Visits.{swept-text, stays-seat, stays-row}
-use Rattle.lives.proofs.Teardowns.{answered-torn}
+use Rattle.lives.proofs.Teardowns.{Tearing, tearing, not-tearing, whether-tearing, answered-torn}
 
 -- A SWEEP
 module _ (clock : ℕ) (t : SatBox) (w : Whole t) where
@@ -100,7 +98,7 @@ opening-lasts m client t =
     })
     (λ e. lasts-nothing t)
 
-answered-lasts : (s : List ℕ) (address draw : ℕ) (t : SatBox) → Whole t → (methodOf s ≡ Teardown → ⊥) → Lasts t (answered s address draw t .did)
+answered-lasts : (s : List ℕ) (address draw : ℕ) (t : SatBox) → Whole t → (methodOf s ≡ Teardown → isPassed (answered s address draw t .case) ≡ true → ⊥) → Lasts t (answered s address draw t .did)
 answered-lasts s address draw t w n =
     answered-holds s address draw t w (Lasts t)
     (record {
@@ -108,15 +106,8 @@ answered-lasts s address draw t w n =
       changed = λ place s k u r. changed-lasts place s k r;
       joined = λ id client e. joining-lasts id client t;
       opened = λ m client e. opening-lasts m client t;
-      closed = λ tears place c. absurd (n tears);
+      closed = λ tears passed place c. absurd (n tears passed);
     })
-
-tears? : (m : Method) → (m ≡ Teardown) ⊎ (m ≡ Teardown → ⊥)
-tears? Teardown = inl refl
-tears? Options = inr (λ e. let z : _≡_ {A = ℕ} 0 1 = cc in omega arith)
-tears? Setup = inr (λ e. let z : _≡_ {A = ℕ} 0 1 = cc in omega arith)
-tears? Play = inr (λ e. let z : _≡_ {A = ℕ} 0 1 = cc in omega arith)
-tears? Other = inr (λ e. let z : _≡_ {A = ℕ} 0 1 = cc in omega arith)
 
 -- a request on the swept box is a TEARDOWN that is answered 200, or all stay
 data Fared (s : List ℕ) (address draw : ℕ) (t : SatBox) : Type 0 where
@@ -124,12 +115,11 @@ data Fared (s : List ℕ) (address draw : ℕ) (t : SatBox) : Type 0 where
   lasted : Lasts t (answered s address draw t .did) → Fared s address draw t
 
 fared : (s : List ℕ) (address draw : ℕ) (t : SatBox) → Whole t → Fared s address draw t
-fared s address draw t w = by (case (isPassed (answered s address draw t .case))) (tears? (methodOf s))
+fared s address draw t w = by (whether-tearing s address draw t)
   where
-    by : Case (isPassed (answered s address draw t .case)) → (methodOf s ≡ Teardown) ⊎ (methodOf s ≡ Teardown → ⊥) → Fared s address draw t
-    by (is y) (inl e) = tore e y
-    by (is y) (inr n) = lasted (answered-lasts s address draw t w n)
-    by (isnt y) e = lasted (subst (Lasts t) (sym (answered-still s address draw t y)) (lasts-nothing t))
+    by : Tearing s address draw t → Fared s address draw t
+    by (tearing e y) = tore e y
+    by (not-tearing n) = lasted (answered-lasts s address draw t w n)
 
 -- WHAT ENDS A SESSION
 module _ (x : Life) (w : Whole (x .satbox)) (i : ℕ) (some : isOpen (sessionAt (x .satbox) i) ≡ true) where

@@ -10,7 +10,7 @@ use native.Mathlib.Omega.{arith}
 use lib.Dec.{eqb}
 use lib.ListN.{length, take, getD}
 use Rattle.scan.specs.Lists.{all}
-use Rattle.aim.specs.declared.Method.the-variants.{Options, Teardown}
+use Rattle.aim.specs.declared.Method.the-variants.{Teardown}
 use Rattle.refusals.specs.declared.Refusal.the-variants as refusal
 use Rattle.reader.specs.Request.{methodOf, requestRefusal}
 use Rattle.journal.specs.Records.{recordSize, readAt}
@@ -177,13 +177,15 @@ module _ (settings : Settings) (j : List ℕ) (cs : List Call) where
         → (rest : List Record) × (live c x .records ≡ sweeping clock (x .satbox) .records ++ rest) × (any saysClosed rest ≡ false)
     no-other-closing-is-written clock c sweeps = else-text sweeps x (after-good h .whole)
 
-    -- WHO IS KEPT: a session that an OPTIONS answered 200 names, in the box after expired sessions are closed; after this call and any others
+    -- WHO IS KEPT, order 3: a session that a request names which passes step 11, whatever its method and its status: steps 1 to 10 let it through
+    -- (`requestRefusal`), and in the box after expired sessions are closed the number of its Session header is an open session's; after this call and any
+    -- others
     module _ (s : List ℕ) (clock address draw : ℕ) (b : List ℕ) (l : Lent) (ds : List Call) where
-      abbrev options : Call
-      options = request s clock address draw b l
+      abbrev naming : Call
+      naming = request s clock address draw b l
 
       abbrev y : Life
-      y = live options x
+      y = live naming x
 
       abbrev seat : ℕ
       seat = placeNamedBy s (sweeping clock (x .satbox) .satbox)
@@ -191,20 +193,22 @@ module _ (settings : Settings) (j : List ℕ) (cs : List Call) where
       abbrev kept : Session
       kept = sessionAt (sweeping clock (x .satbox) .satbox) seat
 
-      module _ (calls : all (isCall (settings .size)) (options ∷ ds) ≡ true) (done : live options x .outcome ≡ Done) (keep : methodOf s ≡ Options)
-          (passed : isPassed (requested s clock address draw (x .satbox) .case) ≡ true) (named : seat < 32) where
+      module _ (calls : all (isCall (settings .size)) (naming ∷ ds) ≡ true) (done : live naming x .outcome ≡ Done)
+          (read : requestRefusal (settings .frontends) s ≡ refusal.Passed) (named : seat < 32) where
         -- is not closed for its age before the clock used plus 60: each record of those others that says so (`isTimeOut`) has that clock or a later one,
         pub kept-is-not-timed-out : (i : ℕ) (past : Record) → i < length (recordsOf ds y) → isTimeOut (kept .number) (getD (recordsOf ds y) i past) ≡ true
             → max (x .satbox .clock) clock + 60 ≤ getD (recordsOf ds y) i past .clock
-        kept-is-not-timed-out = hears-late (kept-hears (after-good h) s clock address draw b l done keep passed named ds calls)
+        kept-is-not-timed-out = hears-late (kept-hears (after-good h) s clock address draw b l done read named ds calls)
 
-        -- and is open at its place, with a last time of the clock used or later, or one of the records says that it closed (`Fares`)
-        pub kept-stays : Fares (kept .number) seat (λ last. max (x .satbox .clock) clock ≤ last) (run ds y .satbox) (recordsOf ds y)
-        kept-stays = kept-fares (after-good h) s clock address draw b l done keep passed named ds calls
+        -- and, but for a TEARDOWN that is answered 200 (`TearsDown`), which closes it, is open at its place, with a last time of the clock used or later, or one
+        -- of the records of those others says that it closed (`Fares`)
+        pub kept-stays : (TearsDown (x .satbox) naming → ⊥) → Fares (kept .number) seat (λ last. max (x .satbox .clock) clock ≤ last) (run ds y .satbox) (recordsOf ds y)
+        kept-stays = kept-fares (after-good h) s clock address draw b l done read named ds calls
 
-    -- WHO IS NOT: an open session, after any calls of which none is an OPTIONS that has its number (`KeepsAlive`; past their last there is an order)
+    -- WHO IS NOT: an open session, after any calls of which none is a request that steps 1 to 10 let through and that has its number (`KeepsAlive`; past their
+    -- last there is an order)
     module _ (i : ℕ) (some : isOpen (sessionAt (x .satbox) i) ≡ true) (ds : List Call) (calls : all (isCall (settings .size)) ds ≡ true)
-        (unkept : (k : ℕ) → KeepsAlive (sessionAt (x .satbox) i .number) (getD ds k (order 0)) → ⊥) where
+        (unkept : (k : ℕ) → KeepsAlive (settings .frontends) (sessionAt (x .satbox) i .number) (getD ds k (order 0)) → ⊥) where
       -- is open at its place, with the last time that it had, or one of the records says that it closed,
       pub unkept-stays : Fares (sessionAt (x .satbox) i .number) i (λ last. last ≡ sessionAt (x .satbox) i .last) (run ds x .satbox) (recordsOf ds x)
       unkept-stays = unkept-fares (after-good h) (after-young h) i some ds calls unkept

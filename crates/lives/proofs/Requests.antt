@@ -1,15 +1,17 @@
 -- What holds of each thing that steps 1 to 18 can come to holds of every request: nothing, a session changed in its place, an opening, a joining or a
 -- closing. Assumes nothing.
-use mathlib.Core.Path.{_≡_, refl, _∙_, ap}
-use mathlib.Core.Bool.{true}
-use mathlib.Core.List.{List}
-use mathlib.Core.Logic.{_⊎_, inl, inr}
-use Prim.Native.Nat.{ℕ}
+use mathlib.Core.Path.{_≡_, refl, sym, _∙_, ap, subst}
+use mathlib.Core.Bool.{Bool, true, false}
+use mathlib.Core.List.{List, _∷_}
+use Prim.Native.Nat.{ℕ, _<_}
 use lib.Dec.{eqb}
-use Rattle.scan.proofs.Bools.{cond-keeps}
+use lib.ListN.{getD}
+use borrow.Author.Tests.{lt-ltb}
+use Rattle.scan.proofs.Bools.{never, cond-keeps, Case as Test, is, isnt, case}
 use Rattle.aim.specs.declared.Method.{Method}
 use Rattle.aim.specs.declared.Method.the-variants.{Options, Setup, Play, Teardown, Other}
 use Rattle.reader.specs.Request.{methodOf}
+use Rattle.stream.specs.Streams.{pastStream}
 use Rattle.stream.specs.declared.Stream.{Stream}
 use Rattle.stream.specs.declared.Change.{Change}
 use Rattle.stream.proofs.Keeping.{merge-frontend}
@@ -17,22 +19,24 @@ use Rattle.table.specs.Table.{sessionAt, streamOf}
 use Rattle.table.specs.declared.Session.{Session}
 use Rattle.table.specs.declared.SatBox.{SatBox}
 use Rattle.steps.specs.Sights.{Asked, Lists, askedOf, listsOf, sightOf}
-use Rattle.steps.specs.Steps.{isSetup, looksUp, isNamed}
+use Rattle.steps.specs.Steps.{isPassed, isSetup, looksUp, isNamed}
 use Rattle.closings.specs.Closing.{Did, nothing, restreamed, closing}
 use Rattle.closings.specs.Does.{Closable}
-use Rattle.serving.specs.Serving.{joining, opening, merging, merges, withSession, refreshed, seatAfter, Serving, keeping, retuning, seating, grant, clientOf, answered}
+use Rattle.serving.specs.Serving.{joining, opening, merging, merges, withSession, kept, seatAfter, Serving, retuning, grant, served, clientOf, answered}
 use Rattle.serving.specs.declared.opening.Client.{Client}
 use Rattle.closings.proofs.Keeping.{Whole}
-use Rattle.serving.proofs.Passing.{Untested, named-needed, own-live}
+use Rattle.serving.proofs.Passing.{Untested, named-needed, named-closable, own-live}
 use Rattle.serving.proofs.Branching.{merging-live}
-use Rattle.promises.proofs.Passing.{served-by, tears-closable}
+use Rattle.serving.proofs.Kept.{Alike, with-again, seat, since, kept-named, kept-alone, kept-streams, kept-place, kept-whole}
+use Rattle.satbox.proofs.RequestLaws.{grant-passes}
+use Rattle.promises.proofs.Keeps.{kept-isNamed, kept-since, kept-closes, seated-below}
+use Rattle.promises.proofs.Passing.{served-by}
 use Rattle.promises.proofs.Requests.{answered-by}
-use Rattle.serving.proofs.Kept.{Alike}
 
--- a session after a request that names it: its last time is as it was, or the clock
+-- a session after a request that names it: its last time is the clock, by order 3
 pub record Kin (clock : ℕ) (s old : Session) : Type 0 where
   pub alike : Alike s old
-  pub last : (s .last ≡ old .last) ⊎ (s .last ≡ clock)
+  pub last : s .last ≡ clock
 
 -- the table with a query merged into a stream, which keeps its frontend; or without
 pub data Retuned (t : SatBox) : SatBox → Type 0 where
@@ -45,59 +49,107 @@ unfolding restreamed
 retuned-same as-it-was = (refl, refl)
 retuned-same (merged id m e) = (refl, refl)
 
--- what is to be shown of a request with a method
-pub record Steps (t : SatBox) (method : Method) (draw : ℕ) (R : Did → Type 0) : Type 0 where
+-- what is to be shown of a request with a method, which passes or does not
+pub record Steps (t : SatBox) (method : Method) (passes : Bool) (draw : ℕ) (R : Did → Type 0) : Type 0 where
   pub still : R (nothing t)
   pub changed : (place : ℕ) (s : Session) → Kin (t .clock) s (sessionAt t place) → (u : SatBox) → Retuned t u → R (nothing (withSession place s u))
   pub joined : (id : ℕ) (client : Client) → client .draw ≡ draw → R (joining id client t)
   pub opened : (m : Stream) (client : Client) → client .draw ≡ draw → R (opening m client t)
-  pub closed : method ≡ Teardown → (place : ℕ) → Closable t place → R (closing 1 place t)
+  pub closed : method ≡ Teardown → passes ≡ true → (place : ℕ) → Closable t place → R (closing 1 place t)
 
-module _ (t : SatBox) (a : Asked) (l : Lists) (client : Client) (w : Whole t) (R : Did → Type 0) (k : Steps t (a .method) (client .draw) R) (p : Untested (sightOf t a)) where
-  keeping-holds : R (keeping t (sightOf t a) .did)
-  unfolding sightOf
-  keeping-holds =
-      cond-keeps R (isNamed (sightOf t a)) _ (nothing t)
-      (λ e. k .changed (sightOf t a .place) (refreshed (t .clock) (sightOf t a .session)) (record { alike = record { number = refl; stream = refl; owner = refl }; last = inr refl }) t as-it-was)
-      (λ e. k .still)
-
-  module _ (named : isNamed (sightOf t a) ≡ true) (looks : looksUp (a .method) ≡ true) where
-    merging-feed : merging t a l .stream .frontend ≡ streamOf t (a .stream) .frontend
+module _ (t : SatBox) (a : Asked) (l : Lists) (client : Client) (w : Whole t) (passes : Bool) (R : Did → Type 0) (k : Steps t (a .method) passes (client .draw) R) where
+  -- ONE THAT NAMES NO SESSION
+  module _ (n : isNamed (sightOf t a) ≡ false) (p : Untested (sightOf t a)) where
+    alone-holds : (m : Method) → a .method ≡ m → R (grant m t a l client .did)
     unfolding sightOf
-    merging-feed =
-        let live = own-live t w a (sightOf t a) refl named p looks in
-        ap (λ (c : Change). c .stream .frontend) (merging-live t a l client (sightOf t a) refl (λ e. live (ap (λ i. streamOf t i .frontend) e)))
-        ∙ merge-frontend (streamOf t (a .stream)) (a .codes) (l .pids) (l .delpids) (l .addpids)
+    alone-holds Options e = k .still
+    alone-holds Setup e =
+        rw n
+        (cond-keeps (λ (x : Serving). R (x .did)) (eqb (a .stream) 0) _ _ (λ z. k .opened (merging t a l .stream) client refl) (λ z. k .joined (a .stream) client refl))
+    alone-holds Play e = never (named-needed (sightOf t a) p (rw e)) n
+    alone-holds Teardown e = never (named-needed (sightOf t a) p (rw e)) n
+    alone-holds Other e = k .still
 
-    after-kin : Kin (t .clock) (seatAfter (sightOf t a)) (sessionAt t (sightOf t a .place))
-    unfolding sightOf
-    after-kin =
-        cond-keeps (λ (s : Session). Kin (t .clock) s (sessionAt t (sightOf t a .place))) (isSetup (sightOf t a .method)) _ _
-        (λ e. record { alike = record { number = refl; stream = refl; owner = refl }; last = inl refl })
-        (λ e. record { alike = record { number = refl; stream = refl; owner = refl }; last = inl refl })
+  -- ONE THAT NAMES A SESSION, on the table where it is kept
+  module _ (h : seat a t < 32) where
+    abbrev u : SatBox
+    u = kept a t
 
-    retuning-holds : R (retuning t a l .did)
-    retuning-holds =
-        let place = sightOf t a .place in
-        let s = seatAfter (sightOf t a) in
-        cond-keeps (λ (u : SatBox). R (nothing (withSession place s u))) (merges (sightOf t a)) (restreamed (a .stream) (merging t a l .stream) t) t
-        (λ e. k .changed place s after-kin _ (merged (a .stream) (merging t a l .stream) merging-feed)) (λ e. k .changed place s after-kin t as-it-was)
+    kept-holds : R (nothing u)
+    kept-holds =
+        rw (kept-named a t h)
+        (k .changed (seat a t) (since a t) (record { alike = record { number = refl; stream = refl; owner = refl }; last = refl }) t as-it-was)
 
-  grant-holds : (m : Method) → a .method ≡ m → R (grant m t a l client .did)
-  unfolding sightOf
-  grant-holds Options e = keeping-holds
-  grant-holds Setup e =
-      cond-keeps (λ (x : Serving). R (x .did)) (isNamed (sightOf t a)) (retuning t a l) (seating t a l client) (λ named. retuning-holds named (rw e))
-      (λ n. cond-keeps (λ (x : Serving). R (x .did)) (eqb (a .stream) 0) _ _ (λ z. k .opened (merging t a l .stream) client refl) (λ z. k .joined (a .stream) client refl))
-  grant-holds Play e = retuning-holds (named-needed (sightOf t a) p (rw e)) (rw e)
-  grant-holds Teardown e = k .closed e (sightOf t a .place) (tears-closable t a w p e)
-  grant-holds Other e = k .still
+    module _ (p : Untested (sightOf u a)) (y : passes ≡ true) where
+      named : isNamed (sightOf u a) ≡ true
+      unfolding sightOf
+      named = kept-isNamed a t ∙ lt-ltb (seat a t) 32 h
+
+      merging-feed : looksUp (a .method) ≡ true → merging u a l .stream .frontend ≡ streamOf t (a .stream) .frontend
+      unfolding sightOf
+      merging-feed looks =
+          let live = own-live u (kept-whole a t w) a (sightOf u a) refl named p looks in
+          ap (λ (c : Change). c .stream .frontend) (merging-live u a l client (sightOf u a) refl (λ e. live (ap (λ i. streamOf u i .frontend) e)))
+          ∙ (merge-frontend (streamOf u (a .stream)) (a .codes) (l .pids) (l .delpids) (l .addpids) ∙ ap (λ ms. getD (pastStream ∷ ms) (a .stream) pastStream .frontend) (kept-streams a t))
+
+      after-kin : Kin (t .clock) (seatAfter (sightOf u a)) (sessionAt t (seat a t))
+      unfolding sightOf
+      after-kin =
+          rw (kept-place a t (a .session), kept-since a t w h)
+          (cond-keeps (λ (s : Session). Kin (t .clock) s (sessionAt t (seat a t))) (isSetup (a .method)) _ _
+          (λ e. record { alike = record { number = refl; stream = refl; owner = refl }; last = refl })
+          (λ e. record { alike = record { number = refl; stream = refl; owner = refl }; last = refl }))
+
+      -- what is changed again is as if it had not been changed before
+      again : (id : ℕ) (m : Stream) → R (nothing (withSession (seat a t) (seatAfter (sightOf u a)) (restreamed id m t)))
+          → R (nothing (withSession (sightOf u a .place) (seatAfter (sightOf u a)) (restreamed id m u)))
+      unfolding sightOf
+      again id m =
+          let s = seatAfter (sightOf u a) in
+          let e : withSession (sightOf u a .place) s (restreamed id m u) ≡ withSession (seat a t) s (restreamed id m t) =
+          ap (λ i. withSession i s (restreamed id m u)) (kept-place a t (a .session)) ∙ (ap (λ v. withSession (seat a t) s (restreamed id m v)) (kept-named a t h) ∙ with-again (seat a t) (since a t) t s id m) in
+          subst (λ v. R (nothing v)) (sym e)
+
+      retuning-holds : looksUp (a .method) ≡ true → R (retuning u a l .did)
+      unfolding restreamed
+      retuning-holds looks =
+          let s = seatAfter (sightOf u a) in
+          let m = merging u a l .stream in
+          cond-keeps (λ (v : SatBox). R (nothing (withSession (sightOf u a .place) s v))) (merges (sightOf u a)) (restreamed (a .stream) m u) u
+          (λ e. again (a .stream) m (k .changed (seat a t) s after-kin _ (merged (a .stream) m (merging-feed looks)))) (λ e. again 0 m (k .changed (seat a t) s after-kin t as-it-was))
+
+      named-holds : (m : Method) → a .method ≡ m → R (grant m u a l client .did)
+      unfolding sightOf
+      named-holds Options e = kept-holds
+      named-holds Setup e = rw named (retuning-holds (rw e))
+      named-holds Play e = retuning-holds (rw e)
+      named-holds Teardown e =
+          rw (kept-closes a t 1) (k .closed e y (seat a t) (named-closable t w a (sightOf t a) refl (lt-ltb (seat a t) 32 h)))
+      named-holds Other e = kept-holds
 
 -- EVERY REQUEST, on a table that was swept
-pub answered-holds : (s : List ℕ) (address draw : ℕ) (t : SatBox) → Whole t → (R : Did → Type 0) → Steps t (methodOf s) draw R → R (answered s address draw t .did)
+pub answered-holds : (s : List ℕ) (address draw : ℕ) (t : SatBox) → Whole t → (R : Did → Type 0) → Steps t (methodOf s) (isPassed (answered s address draw t .case)) draw R → R (answered s address draw t .did)
 answered-holds s address draw t w R k =
-    let a = askedOf (t .settings .frontends) s in
-    let client = clientOf address draw a in
-    answered-by s address draw t (λ (x : Serving). R (x .did))
-    (λ e. served-by t a (listsOf s) client (λ (x : Serving). R (x .did)) (λ p q. grant-holds t a (listsOf s) client w R k p (a .method) refl) (λ n. k .still))
-    (λ e. k .still)
+    answered-by s address draw t Shown (λ e. by (case (isNamed (sightOf t a)))) (λ e z. k .still) refl
+  where
+    a : Asked
+    a = askedOf (t .settings .frontends) s
+
+    client : Client
+    client = clientOf address draw a
+
+    passes : Bool
+    passes = isPassed (answered s address draw t .case)
+
+    Shown : Serving → Type 0
+    Shown x = isPassed (x .case) ≡ passes → R (x .did)
+
+    by : Test (isNamed (sightOf t a)) → Shown (served (kept a t) a (listsOf s) client)
+    by (is y) =
+        let h = seated-below a t y in
+        served-by (kept a t) a (listsOf s) client Shown
+        (λ p q z. named-holds t a (listsOf s) client w passes R k h p (sym z ∙ ap isPassed (grant-passes (a .method) (kept a t) a (listsOf s) client)) (a .method) refl)
+        (λ n z. kept-holds t a (listsOf s) client w passes R k h)
+    by (isnt n) =
+        subst (λ v. Shown (served v a (listsOf s) client)) (sym (kept-alone a t n))
+        (served-by t a (listsOf s) client Shown (λ p q z. alone-holds t a (listsOf s) client w passes R k n p (a .method) refl) (λ e z. k .still))

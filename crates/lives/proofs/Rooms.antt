@@ -6,7 +6,7 @@ use mathlib.Core.Logic.{_↔_}
 use Prim.Native.Nat.{ℕ, _+_, _*_, _≤_, _<_}
 use native.Mathlib.Decide.{decLt}
 use native.Mathlib.Omega.{arith}
-use borrow.Author.Tests.{ne-eqb, eq-eqb, lt-leb, le-leb}
+use borrow.Author.Tests.{ne-eqb, eq-eqb, lt-leb, le-leb, not-true}
 use Rattle.scan.proofs.Bools.{never, and-both, by-cases, Same, same, other, sames}
 use Rattle.aim.specs.declared.Method.{Method}
 use Rattle.aim.specs.declared.Method.the-variants.{Options, Setup, Play, Teardown, Other}
@@ -21,6 +21,7 @@ use Rattle.steps.specs.declared.cases.Case.{Case}
 use Rattle.steps.specs.declared.cases.Case.the-variants.{Passed, Full}
 use Rattle.serving.specs.Serving.{hasRoom, canSeat, caseOf, Serving, served, clientOf, answered}
 use Rattle.serving.specs.declared.opening.Client.{Client}
+use Rattle.serving.proofs.Kept.{kept-alone}
 use Rattle.serving.proofs.Passing.{untested}
 use Rattle.satbox.proofs.RequestLaws.{grant-passes}
 use Rattle.lives.specs.Closed.{PassesElse}
@@ -68,7 +69,9 @@ full-not-passed p q = let z : _≡_ {A = ℕ} 0 1 = cc in omega arith
 module _ (s : List ℕ) (address draw : ℕ) (t : SatBox) (read : requestRefusal (t .settings .frontends) s ≡ refusal.Passed) (p : PassesElse t (askedOf (t .settings .frontends) s) (listsOf s)) where
   answered-is : answered s address draw t ≡ served t (askedOf (t .settings .frontends) s) (listsOf s) (clientOf address draw (askedOf (t .settings .frontends) s))
   unfolding answered
-  answered-is = rw read
+  answered-is =
+      let a = askedOf (t .settings .frontends) s in
+      rw read (ap (λ u. served u a (listsOf s) (clientOf address draw a)) (kept-alone a t (not-true _ (and-both (isSetup (sightOf t a .method)) _ (p .opening) .1))))
 
   without-room : t .settings .size < t .held + 16 * openCount t + 32 → answered s address draw t .case ≡ Full
   without-room h =

@@ -70,7 +70,7 @@ answered-set s address draw t w =
       changed = λ place s k u r. changed-set place s r;
       joined = λ id client e. joining-set id client t;
       opened = λ m client e. opening-set m client t;
-      closed = λ tears place c. closing-set place t c;
+      closed = λ tears passed place c. closing-set place t c;
     })
 
 -- A REQUEST

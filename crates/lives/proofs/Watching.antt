@@ -57,7 +57,7 @@ answered-watched s address draw short t w =
       changed = λ place s k u r. changed-watched place s (k .alike) r;
       joined = λ id client e. joining-watched id client t (rw e short) w;
       opened = λ m client e. opening-watched m client t (rw e short) w;
-      closed = λ tears place c. closing-watched 1 place t c w;
+      closed = λ tears passed place c. closing-watched 1 place t c w;
     })
 
 -- A REQUEST

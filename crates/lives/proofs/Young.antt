@@ -2,7 +2,6 @@
 use mathlib.Core.Path.{_≡_, refl, sym, subst}
 use mathlib.Core.Bool.{true, false, and-false}
 use mathlib.Core.List.{List, [], _∷_}
-use mathlib.Core.Logic.{_⊎_, inl, inr}
 use Prim.Native.Nat.{ℕ, _-_, max}
 use native.Mathlib.Omega.{arith}
 use borrow.Author.Tests.{lt-leb}
@@ -62,14 +61,10 @@ opening-young m client t y =
     (λ e. y)
 
 -- A SESSION CHANGED in its place
-kin-young : (clock : ℕ) (s old : Session) → isExpired clock old ≡ false → s .number ≡ old .number → (s .last ≡ old .last) ⊎ (s .last ≡ clock) → isExpired clock s ≡ false
-kin-young clock s old y n (inl e) = rw (n, e) y
-kin-young clock s old y n (inr e) = heard clock s e
-
 changed-young : {t u : SatBox} (place : ℕ) (s : Session) → Young (t .clock) t → Kin (t .clock) s (sessionAt t place) → Retuned t u → Young (t .clock) (withSession place s u)
 unfolding withSession
 changed-young {t} place s y k r =
-    let new = kin-young (t .clock) s (sessionAt t place) (y place) (k .alike .number) (k .last) in
+    let new = heard (t .clock) s (k .last) in
     rw (retuned-same r .0) (λ i. getD-set-all (λ (x : Session). isExpired (t .clock) x ≡ false) (t .sessions) place i s noSession new (y i))
 
 closing-young : (place : ℕ) (t : SatBox) → Young (t .clock) t → Closable t place → Young (t .clock) (closing 1 place t .satbox)
@@ -84,7 +79,7 @@ answered-young s address draw t w y =
       changed = λ place s k u r. changed-young place s y k r;
       joined = λ id client e. joining-young id client t y;
       opened = λ m client e. opening-young m client t y;
-      closed = λ tears place c. closing-young place t y c;
+      closed = λ tears passed place c. closing-young place t y c;
     })
 
 -- THE CALLS

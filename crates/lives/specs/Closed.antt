@@ -8,9 +8,10 @@ use Rattle.scan.specs.Lists.{first}
 use Rattle.journal.specs.declared.Record.{Record}
 use Rattle.lines.specs.Lines.{headerLines}
 use Rattle.lines.specs.Headers.{valuesOf}
-use Rattle.aim.specs.declared.Method.the-variants.{Options, Teardown}
+use Rattle.aim.specs.declared.Method.the-variants.{Teardown}
+use Rattle.refusals.specs.declared.Refusal.the-variants as refusal
 use Rattle.reader.specs.Fields.{sessionOf}
-use Rattle.reader.specs.Request.{methodOf}
+use Rattle.reader.specs.Request.{methodOf, requestRefusal}
 use Rattle.table.specs.Table.{hasNumber, sessionAt, isOn, owns, noSession, streamOf, any}
 use Rattle.table.specs.declared.Session.{Session}
 use Rattle.table.specs.declared.SatBox.{SatBox}
@@ -85,10 +86,11 @@ pub data Fares (n i : ℕ) (P : ℕ → Type 0) (t : SatBox) (rs : List Record) 
 abbrev pub placeNamedBy : List ℕ → SatBox → ℕ
 placeNamedBy s t = placeNamed (sessionOf (valuesOf 1 (headerLines s))) t
 
--- a call is an OPTIONS whose Session header has the number n
-pub data KeepsAlive (n : ℕ) : Call → Type 0 where
-  in-options : {s : List ℕ} {clock address draw : ℕ} {b : List ℕ} {l : Lent} → methodOf s ≡ Options → sessionNumber (sessionOf (valuesOf 1 (headerLines s))) ≡ n
-      → KeepsAlive n (request s clock address draw b l)
+-- a call of a box with that many frontends keeps whoever has the number n, order 3: it is a request that steps 1 to 10 let through, and its Session header
+-- has that number. Where an open session has it, step 11 lets the request through
+pub data KeepsAlive (frontends n : ℕ) : Call → Type 0 where
+  naming : {s : List ℕ} {clock address draw : ℕ} {b : List ℕ} {l : Lent} → requestRefusal frontends s ≡ refusal.Passed
+      → sessionNumber (sessionOf (valuesOf 1 (headerLines s))) ≡ n → KeepsAlive frontends n (request s clock address draw b l)
 
 -- a call is "a request or a tick", given a clock: it "first closes expired sessions"
 pub data Sweeps : ℕ → Call → Type 0 where

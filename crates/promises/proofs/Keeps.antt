@@ -3,7 +3,10 @@
 use mathlib.Core.Path.{_≡_, refl, sym, _∙_, ap}
 use mathlib.Core.Bool.{true, false, and-false}
 use mathlib.Core.List.{List}
-use Prim.Native.Nat.{ℕ}
+use Prim.Native.Nat.{ℕ, _<_}
+use native.Mathlib.Omega.{arith}
+use lib.Seq.{getD-set-same}
+use borrow.Author.Tests.{ltb-true}
 use Rattle.scan.proofs.Bools.{cond-keeps, Case as Test, is, isnt, case}
 use Rattle.refusals.specs.declared.Refusal.the-variants as refusal
 use Rattle.reader.specs.Request.{requestRefusal}
@@ -17,9 +20,10 @@ use Rattle.steps.specs.Steps.{isPassed, isSetup, isNamed, tableCase}
 use Rattle.steps.specs.declared.Sight.{Sight}
 use Rattle.steps.proofs.ReplyLaws.{unread-passed}
 use Rattle.closings.specs.Closing.{closing}
+use Rattle.closings.proofs.Keeping.{Whole}
 use Rattle.serving.specs.Serving.{merging, merges, isUnreached, isOpening, caseOf, withSession, refreshed, kept, Serving, grant, denied, served, clientOf, answered}
 use Rattle.serving.specs.declared.opening.Client.{Client}
-use Rattle.serving.proofs.Kept.{closing-again, seat, since, kept-by, kept-alone, kept-settings, kept-streams, kept-place}
+use Rattle.serving.proofs.Kept.{closing-again, seat, since, kept-by, kept-named, kept-alone, kept-settings, kept-streams, kept-place}
 use Rattle.satbox.proofs.RequestLaws.{grant-passes, case-unread}
 
 -- one that names a session opens none, so it does not ask for a free place
@@ -30,6 +34,16 @@ module _ (a : Asked) (t : SatBox) where
   pub kept-isNamed : isNamed (sightOf (kept a t) a) ≡ isNamed (sightOf t a)
   unfolding sightOf
   kept-isNamed = rw (kept-place a t (a .session))
+
+  -- a session that is named has a place,
+  pub seated-below : isNamed (sightOf t a) ≡ true → seat a t < 32
+  unfolding sightOf
+  seated-below y = ltb-true (seat a t) 32 y
+
+  -- and there it has the clock for its last time
+  pub kept-since : Whole t → seat a t < 32 → sessionAt (kept a t) (seat a t) ≡ since a t
+  unfolding withSession
+  kept-since w h = rw (kept-named a t h) (getD-set-same (t .sessions) (seat a t) (since a t) noSession (omega (arith, w .places)))
 
   -- of every session all but the last time stays
   pub kept-session : {B : Type 0} (f : Session → B) → ((clock : ℕ) (s : Session) → f (refreshed clock s) ≡ f s) → (i : ℕ) → f (sessionAt (kept a t) i) ≡ f (sessionAt t i)

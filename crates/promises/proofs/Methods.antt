@@ -40,7 +40,7 @@ use Rattle.serving.proofs.Passing.{Untested, named-needed, own-live, own-stream
 use Rattle.serving.proofs.Branching.{merging-new, merging-live, merging-feed, merging-src}
 use Rattle.promises.proofs.Passing.{Changing, served-by, source, feed, can-join, can-open, new-merged}
 use Rattle.promises.proofs.Requests.{answered-by, answered-still}
-use Rattle.promises.proofs.Keeps.{kept-closes}
+use Rattle.promises.proofs.Keeps.{kept-since, kept-closes}
 
 -- WHAT IS SAID. What is fixed when a box is made, F and C, and the clock are as they were
 pub record Settled (t u : SatBox) : Type 0 where
@@ -241,10 +241,6 @@ module _ (s : List ℕ) (address draw : ℕ) (t : SatBox) where
   module _ (w : Whole t) where
     -- WHERE A SESSION IS NAMED: what is done to it on the table where it is kept, and nothing else, is done to it on the one before
     module _ (h : place < 32) where
-      there : sessionAt k place ≡ since a t
-      unfolding withSession
-      there = rw (kept-named a t h) (getD-set-same (t .sessions) place (since a t) noSession (omega (arith, w .places)))
-
       -- there is its last time set; the rest of it stays, and its stream
       keeps : Quietly t k place (but (t .clock) (old .port) (old .playing) old) (old .stream) (streamOf t (old .stream))
       keeps = rw (kept-named a t h) (replaced-quietly t w h _ (old .stream))
@@ -295,9 +291,9 @@ module _ (s : List ℕ) (address draw : ℕ) (t : SatBox) where
       retunes h takes is =
           let e = kept-place a t (a .session) in
           let q : Quietly k u (placeNamed (a .session) k) (after (a .method)) (sessionAt k (placeNamed (a .session) k) .stream) (tuned k a l (sessionAt k (placeNamed (a .session) k))) =
-          rw is (retuning-quietly k a l (clientOf address draw a) (kept-whole a t w) takes untested (rw e h) (rw (e, there h))) in
+          rw is (retuning-quietly k a l (clientOf address draw a) (kept-whole a t w) takes untested (rw e h) (rw (e, kept-since a t w h))) in
           let g : tuned k a l (since a t) ≡ tuned t a l old = rw (kept-streams a t) in
-          kept-quietly h (subst (λ m. Quietly k u place (after (a .method)) (old .stream) m) g (rw (e, there h) at q))
+          kept-quietly h (subst (λ m. Quietly k u place (after (a .method)) (old .stream) m) g (rw (e, kept-since a t w h) at q))
 
       -- OPTIONS NAMING A SESSION sets its last time to the clock; the rest of it stays, and its stream
       pub options-refreshes : methodOf s ≡ Options → place < 32 → Quietly t u place (but (t .clock) (old .port) (old .playing) old) (old .stream) (streamOf t (old .stream))

@@ -1,30 +1,28 @@
 -- The table where the session that a request names is kept (order 3 of document 02): it is the one that was, but for that session's last time; it is
 -- well formed, and what is then done to the session is the same on both. Assumes nothing.
-use mathlib.Core.Path.{_≡_, refl, sym, _∙_, ap, subst}
+use mathlib.Core.Path.{_≡_, refl, _∙_, ap}
 use mathlib.Core.Bool.{Bool, true, false, _&&_}
 use mathlib.Core.List.{List, [], _∷_}
 use Prim.Native.Nat.{ℕ, zero, suc, _%_, _<_}
 use native.Mathlib.Omega.{arith}
 use lib.Dec.{eqb, leb}
-use lib.ListN.{length, getD, set, length-set}
-use lib.Seq.{getD-set-same, getD-set-other}
-use borrow.Author.Tests.{eq-eqb, ne-eqb, le-leb, lt-ltb, ltb-true}
+use lib.ListN.{getD, set, length-set}
+use borrow.Author.Tests.{ne-eqb, le-leb, lt-ltb, ltb-true}
 use Rattle.scan.specs.Lists.{first, isBetween}
-use Rattle.scan.proofs.Bools.{and-both, cond-keeps, Case as Test, is, isnt, case}
+use Rattle.scan.proofs.Bools.{and-both, cond-keeps}
 use Rattle.reader.specs.declared.fields.Session.{Session as Sent}
 use Rattle.stream.specs.Streams.{pastStream}
 use Rattle.stream.specs.declared.Stream.{Stream}
-use Rattle.table.specs.Table.{noSession, hasNumber, isOpen, sessionAt, streamOf}
+use Rattle.table.specs.Table.{noSession, hasNumber, isOpen, sessionAt}
 use Rattle.table.specs.Formed.{isSeated}
 use Rattle.table.proofs.Rules.{isProper}
 use Rattle.table.specs.declared.Session.{Session}
-use Rattle.table.specs.declared.Settings.{Settings}
 use Rattle.table.specs.declared.SatBox.{SatBox}
 use Rattle.table.proofs.Counts.{count-set-same, getD-set-alike}
 use Rattle.table.proofs.Changes.{seats-alike, proper-set}
 use Rattle.steps.specs.Sights.{Asked, placeNamed, sessionNumber, sightOf}
 use Rattle.steps.specs.Steps.{isNamed}
-use Rattle.closings.specs.Closing.{nothing, restreamed, reseated, noting, closeOne, closing}
+use Rattle.closings.specs.Closing.{restreamed, reseated, noting, closeOne, closing}
 use Rattle.closings.proofs.Keeping.{Whole}
 use Rattle.serving.specs.Serving.{withSession, refreshed, kept}
 use Rattle.serving.proofs.Passing.{named-closable}
