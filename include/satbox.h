@@ -30,8 +30,10 @@
  * From 1.0 to 1.1: satbox_make takes its settings in one struct, with the sources that each frontend reaches. All of them at SATBOX_REACH_ALL is the box
  * of 1.0, call for call. A box that 1.0 left is none of 1.1: its size is another.
  * From 1.1 to 1.2: an answer's CSeq has the digits that were sent, leading zeros too. Nothing in this header moved, and a box of 1.1 is one of 1.2.
+ * From 1.2 to 1.3: every request that names an open session and passes step 11 sets that session's last time, also where a later step refuses it; before,
+ * of these only OPTIONS did. Nothing in this header moved but SATBOX_STACK_REQUEST, which is less, and a box of 1.2 is one of 1.3.
  */
-#define SATBOX_VERSION 0x00010002u      /* 1.2 */
+#define SATBOX_VERSION 0x00010003u      /* 1.3 */
 
 /* Limits. */
 #define SATBOX_FRONTENDS_MIN 1u         /* F, fixed when the box is made */
@@ -53,7 +55,7 @@
 #define SATBOX_CLOCK_MAX 4294967295u    /* here time stands still: no session opened now ever expires */
 
 /* Bytes of stack that each call takes, with its arguments on it and its return address. docs/FIRMWARE.md says how that was measured. */
-#define SATBOX_STACK_REQUEST 6168u
+#define SATBOX_STACK_REQUEST 6152u
 #define SATBOX_STACK_TICK 3272u
 #define SATBOX_STACK_ORDER 2776u
 #define SATBOX_STACK_COLLECT 2712u
@@ -115,7 +117,7 @@ extern "C" {
 struct satbox_session {
     uint32_t number;                    /* the session's number, printed as 8 hex digits */
     uint32_t address;                   /* the client's IPv4 address from the opening, highest octet first: 0xC0A8B227 is 192.168.178.39 */
-    uint32_t last;                      /* the last time: set by the opening and by OPTIONS */
+    uint32_t last;                      /* the last time: the clock used by the opening, or by the last request that kept it (satbox_request) */
     uint32_t port;                      /* the client's RTP port, even, 1024 to 65534; its RTCP port is one more */
     uint8_t stream;                     /* the ID of its stream, 1 to 8 */
     uint8_t owner;                      /* 1: it owns the stream, 0: it joined */
@@ -208,7 +210,9 @@ uint32_t satbox_make(struct satbox *box, struct satbox_settings settings);
 /*
  * Answers one RTSP request.
  * The clock used is the larger of box->clock and clock, and is stored. Expired sessions are closed first, whatever the request is. Then the
- * request is obeyed or answered with a status other than 200, which changes nothing more.
+ * request is obeyed or answered with a status other than 200, which changes nothing more but the last time below.
+ * A request that names an open session keeps it: that session's last is set to the clock used, whether the request is obeyed or not. Not so where one
+ * of steps 1 to 11 refuses it: 400, 405, 414, 454, 501, 505, 551, and 403 for a value out of range. No other session is kept by it.
  * The answer stands in answer[0] to answer[count - 1]; count is 1 to 4,096; the rest of answer stays. New records stand in the journal
  * from the old box->held on; box->held counts them; every other byte of the journal stays.
  * Each opening and each closing writes one record. An opening passes only if held + 16 for each open session + 32 <= C, and is
