@@ -1,5 +1,6 @@
-// What a request comes to once it was read: steps 11 to 18, and the change; where one of them refuses, that is the last time of the session that is
-// named, which comes here set. Nothing here changes a table: what is needed of it is looked up before, and a turn says in few numbers what is to change.
+// What a request comes to once it was read: steps 11 to 18, and the change; where one of them refuses, that is the last time of the session that
+// is named, which comes here set. Nothing here changes a table: what is needed of it is looked up before, and a turn says in few numbers what is
+// to change.
 mod opening;
 
 pub use opening::Client;
