@@ -227,17 +227,17 @@ static bool count_case(const struct bench *b)
 
 /* A bound is some 90 above what was counted: one copy more of the box, which has the price of 103, is too many. */
 static const struct bench benches[] = {
-    {"OPTIONS", write_options, 0, 150, CLOCK, 2891, 2190},
-    {"OPTIONS", write_options, 8, 150, CLOCK, 3701, 3263},
-    {"OPTIONS", write_options, 32, 150, CLOCK, 5705, 6703},
+    {"OPTIONS", write_options, 0, 150, CLOCK, 2844, 2190},
+    {"OPTIONS", write_options, 8, 150, CLOCK, 3672, 3263},
+    {"OPTIONS", write_options, 32, 150, CLOCK, 5676, 6703},
     {"SETUP", write_setup, 0, 150, CLOCK, 0, 4375},
-    {"SETUP", write_setup, 8, 150, CLOCK, 6722, 5172},
+    {"SETUP", write_setup, 8, 150, CLOCK, 6630, 5172},
     {"SETUP", write_setup, 32, 150, CLOCK, 0, 0},
     {"PLAY", write_play, 1, 150, CLOCK, 0, 3982},
-    {"PLAY", write_play, 8, 150, CLOCK, 5397, 4489},
+    {"PLAY", write_play, 8, 150, CLOCK, 5291, 4489},
     {"PLAY", write_play, 32, 150, CLOCK, 0, 7773},
     {"TEARDOWN", write_teardown, 1, 150, CLOCK, 0, 3054},
-    {"TEARDOWN", write_teardown, 8, 150, CLOCK, 4239, 3430},
+    {"TEARDOWN", write_teardown, 8, 150, CLOCK, 4217, 3430},
     {"TEARDOWN", write_teardown, 32, 150, CLOCK, 0, 6868},
     {"T. of four", write_closing, 8, 150, CLOCK, 4622, 0},
     {"bad", write_bad, 0, 150, CLOCK, 0, 0},
