@@ -32,7 +32,7 @@ use Rattle.orders.specs.Orders.{orderAt, orderFor}
 use Rattle.orders.specs.declared.Ordered.the-variants.{On, Off}
 use Rattle.closings.proofs.Keeping.{Whole}
 use Rattle.serving.proofs.Passing.{named-closable}
-use Rattle.serving.proofs.ServingLaws.{options-keeps}
+use Rattle.serving.proofs.ServingLaws.{options-granted}
 use Rattle.serving.proofs.Branching.{tears-down}
 use Rattle.promises.proofs.Keeps.{served-case, answered-case}
 use Rattle.promises.proofs.Asks.{example, box, home, verdict, ask, after}
@@ -98,7 +98,7 @@ module _ (s : List ℕ) (address draw : ℕ) (t : SatBox) (read : requestRefusal
       pub options-passes : answered s address draw t .case ≡ Passed
       unfolding sightOf
       options-passes =
-          passes (ap (λ (x : Serving). x .case) (options-keeps t a (listsOf s) refl options-table options (clientOf address draw a)))
+          passes (ap (λ (x : Serving). x .case) (options-granted t a (listsOf s) refl options-table options (clientOf address draw a)))
 
     -- TEARDOWN of the session's own stream, on a well-formed table
     module _ (w : Whole t) (teardown : methodOf s ≡ Teardown) (own : a .stream ≡ sessionAt t place .stream) where
