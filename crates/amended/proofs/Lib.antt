@@ -2,3 +2,4 @@ pub mod Reaching
 pub mod AsBefore
 pub mod Spellings
 pub mod Cseqs
+pub mod LastTimes

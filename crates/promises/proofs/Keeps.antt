@@ -74,13 +74,13 @@ module _ (a : Asked) (t : SatBox) where
         kept-session (λ s. s .playing) (λ c s. refl) at,
       )
 
-  merges-kept : merges (sightOf (kept a t) a) ≡ merges (sightOf t a)
+  pub merges-kept : merges (sightOf (kept a t) a) ≡ merges (sightOf t a)
   unfolding sightOf
   merges-kept =
       let at = placeNamed (a .session) t in
       rw (kept-place a t (a .session), kept-session (λ s. s .number) (λ c s. refl) at, kept-session (λ s. s .stream) (λ c s. refl) at, kept-session (λ s. s .owner) (λ c s. refl) at)
 
-  merging-kept : (l : Lists) → merging (kept a t) a l ≡ merging t a l
+  pub merging-kept : (l : Lists) → merging (kept a t) a l ≡ merging t a l
   unfolding merging choice sightOf withSession
   merging-kept l = kept-by a t (λ u. merging u a l ≡ merging t a l) (λ y. refl) (λ n. refl)
 
