@@ -42,6 +42,7 @@ use Rattle.serving.proofs.Kept.{seat, since, kept-by, kept-named, kept-alone, k
 use Rattle.satbox.specs.Calls.{requested, answerOf}
 use Rattle.promises.proofs.Requests.{answered-by, left, answered-still}
 use Rattle.promises.proofs.Keeps.{kept-isNamed, kept-session, kept-closes, merges-kept, merging-kept, case-kept, answered-case}
+use Rattle.promises.proofs.Granting.{options-passes}
 use Rattle.promises.proofs.Methods.{but, options-refreshes, options-alone, other-alone, setup-replaces, play-marks, setup-joins, setup-opens, teardown-leaves, teardown-empties}
 
 -- A REQUEST "PASSES STEP 11": no step refuses it, or a later one does
@@ -346,6 +347,10 @@ module _ (a : Asked) (t : SatBox) where
         by (is z) (isnt n) = rw (case-kept a t l, n) (record { case = refl; records = refl; session = refl; table = kept-timeless })
         by (is z) (is y) = rw (case-kept a t l, y) (grant-but (ltb-true (seat a t) 32 z) (a .method))
 
+    served-options : a .method ≡ Options → caseOf t a l ≡ Passed → served (kept a t) a l client .did ≡ servedBefore t a l client .did
+    unfolding served servedBefore
+    served-options e p = rw (case-kept a t l, p) (subst (λ m. grant m (kept a t) a l client .did ≡ grantBefore m t a l client .did) (sym e) refl)
+
 -- no answer says a last time
 lines-ageless : (m : Method) (host : List ℕ) (x : Session) → grantedLines m host x ≡ grantedLines m host (ageless x)
 lines-ageless Options host x = refl
@@ -376,6 +381,21 @@ module _ (s : List ℕ) (address draw : ℕ) where
       let a = asked s address draw t in
       ap (λ x. cond (reading.isRead (requestRefusal (t .settings .frontends) s)) x (denied t (Reading (requestRefusal (t .settings .frontends) s))))
       (served-unnamed a t (listsOf s) (clientOf address draw a) (le-ltb (place s address draw t) 32 (omega arith)))
+
+  -- and so does an OPTIONS: the last times too
+  pub options-as-before : (t : SatBox) → methodOf s ≡ Options → answered s address draw t .did ≡ answeredBefore s address draw t .did
+  unfolding answered answeredBefore
+  options-as-before t e = by (case (ltb (place s address draw t) 32)) (case (reading.isRead (requestRefusal (t .settings .frontends) s)))
+    where
+      by : Test (ltb (place s address draw t) 32) → Test (reading.isRead (requestRefusal (t .settings .frontends) s)) → answered s address draw t .did ≡ answeredBefore s address draw t .did
+      by b (isnt n) = rw n
+      by (isnt n) (is y) = ap (λ (x : Serving). x .did) (unnamed-as-before t (λ h. never (lt-ltb (place s address draw t) 32 h) n))
+      by (is z) (is y) =
+          let a = asked s address draw t in
+          let read = passed-is _ y in
+          rw y
+          (served-options a t (listsOf s) (clientOf address draw a) e
+          (sym (answered-case s address draw t read) ∙ options-passes s address draw t read (ltb-true (place s address draw t) 32 z) e))
 
   -- and every answer is that of before, byte for byte
   abbrev pub answerBefore : ℕ → SatBox → List ℕ
