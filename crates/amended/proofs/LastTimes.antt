@@ -7,7 +7,7 @@ use Prim.Native.Nat.{ℕ, zero, suc, _<_}
 use native.Mathlib.Omega.{arith}
 use lib.Dec.{eqb, ltb}
 use lib.ListN.{getD, set}
-use lib.Seq.{getD-set-same, getD-set-other, map-set-same, set-set}
+use lib.Seq.{getD-set-other, map-set-same, set-set}
 use borrow.Author.Tests.{eqb-true, lt-ltb, le-ltb, ltb-true}
 use Rattle.scan.specs.Lists.{_gives_or_}
 use Rattle.scan.proofs.Bools.{never, Case as Test, is, isnt, case, Same, same, other, sames, or-neither, cond-keeps}
@@ -43,7 +43,7 @@ use Rattle.satbox.specs.Calls.{requested, answerOf}
 use Rattle.promises.proofs.Requests.{answered-by, left, answered-still}
 use Rattle.promises.proofs.Keeps.{kept-isNamed, kept-session, kept-closes, merges-kept, merging-kept, case-kept, answered-case}
 use Rattle.promises.proofs.Granting.{options-passes}
-use Rattle.promises.proofs.Methods.{but, options-refreshes, options-alone, other-alone, setup-replaces, play-marks, setup-joins, setup-opens, teardown-leaves, teardown-empties}
+use Rattle.promises.proofs.Methods.{but, options-refreshes, options-alone, other-alone, setup-replaces, play-marks, setup-joins, setup-opens, teardown-leaves, teardown-empties, names-keeps}
 
 -- A REQUEST "PASSES STEP 11": no step refuses it, or a later one does
 abbrev pub passesEleven : Case → Bool
@@ -189,18 +189,7 @@ module _ (s : List ℕ) (address draw : ℕ) (t : SatBox) where
 
   -- "SETS ITS LAST TIME", whatever its method and its status: but for a TEARDOWN that is answered 200, which closes it
   pub sets-the-last-time : Names → Whole t → (methodOf s ≡ Teardown → isPassed (done .case) ≡ true → ⊥) → LastAt (t .clock) old (sessionAt after place)
-  unfolding withSession
-  sets-the-last-time h w stays = by (case (isPassed (done .case))) (methodOf s) refl
-    where
-      by : Test (isPassed (done .case)) → (m : Method) → methodOf s ≡ m → LastAt (t .clock) old (sessionAt after place)
-      by (isnt n) m e =
-          last-at (ap (λ (d : Did). sessionAt (d .satbox) place) (refused-sets-it-alone n h) ∙ getD-set-same (t .sessions) place _ noSession (omega (arith, w .places, h .named)))
-      by (is y) Options e = last-at (options-refreshes s address draw t w y e (h .named) .changes .session)
-      by (is y) Setup e = last-at (setup-replaces s address draw t w y e (h .named) .changes .session)
-      by (is y) Play e = last-at (play-marks s address draw t w y e .changes .session)
-      by (is y) Teardown e = absurd (stays e y)
-      by (is y) Other e =
-          last-at (ap (λ u. sessionAt u place) (other-alone s address draw t w y e ∙ kept-named asked t (h .named)) ∙ getD-set-same (t .sessions) place _ noSession (omega (arith, w .places, h .named)))
+  sets-the-last-time h w stays = last-at (names-keeps s address draw t w (was-read (h .passes)) (h .named) stays .quietly .changes .session)
 
   -- NO OTHER IS KEPT, not the owner of the stream either: every other session that is open before and after is as it was
   pub no-other-is-kept : Whole t → (i : ℕ) → (i ≡ place → ⊥) → (sessionAt t i .number ≡ 0 → ⊥) → (sessionAt after i .number ≡ 0 → ⊥) → sessionAt after i ≡ sessionAt t i
