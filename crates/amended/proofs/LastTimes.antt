@@ -36,7 +36,7 @@ use Rattle.steps.specs.Replies.{grantedLines, replyText}
 use Rattle.steps.specs.declared.Sight.{Sight}
 use Rattle.steps.specs.declared.cases.Case.{Case}
 use Rattle.steps.specs.declared.cases.Case.the-variants.{Passed, Reading, NoSession, NotLive, State, NotOwner, Transport, NotReached, Full}
-use Rattle.serving.specs.Serving.{merging, merges, mergeCase, isUnreached, isOpening, canSeat, caseOf, withSession, refreshed, kept, seatAfter, Serving, granted, retuned, retuning, grant, denied, served, clientOf, answered}
+use Rattle.serving.specs.Serving.{merging, merges, mergeCase, isUnreached, isOpening, canSeat, caseOf, withSession, kept, seatAfter, Serving, granted, retuned, retuning, grant, denied, served, clientOf, answered}
 use Rattle.serving.specs.declared.opening.Client.{Client}
 use Rattle.serving.proofs.Kept.{seat, since, kept-by, kept-named, kept-alone, kept-place}
 use Rattle.satbox.specs.Calls.{requested, answerOf}
@@ -246,7 +246,7 @@ answeredBefore s address draw t =
 
 -- a session with 0 for its last time, and a table with such sessions: two tables that come to the same one differ in last times alone
 abbrev pub ageless : Session → Session
-ageless x = refreshed 0 x
+ageless x = sessionWith 0 (x .port) (x .playing) x
 
 abbrev pub timeless : SatBox → SatBox
 timeless t = boxWith (map ageless (t .sessions)) (t .streams) (t .held) (t .clock) (t .sequence) t
