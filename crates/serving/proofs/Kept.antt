@@ -1,12 +1,13 @@
 -- The table where the session that a request names is kept (order 3 of document 02): it is the one that was, but for that session's last time; it is
 -- well formed, and what is then done to the session is the same on both. Assumes nothing.
-use mathlib.Core.Path.{_≡_, refl, _∙_, ap}
+use mathlib.Core.Path.{_≡_, refl, _∙_}
 use mathlib.Core.Bool.{Bool, true, false, _&&_}
 use mathlib.Core.List.{List, [], _∷_}
 use Prim.Native.Nat.{ℕ, zero, suc, _%_, _<_}
 use native.Mathlib.Omega.{arith}
 use lib.Dec.{eqb, leb}
 use lib.ListN.{getD, set, length-set}
+use lib.Seq.{set-set}
 use borrow.Author.Tests.{ne-eqb, le-leb, lt-ltb, ltb-true}
 use Rattle.scan.specs.Lists.{first, isBetween}
 use Rattle.scan.proofs.Bools.{and-both, cond-keeps}
@@ -81,23 +82,17 @@ refreshed-whole place t w some =
     replaced-whole place s t w (record { number = refl; stream = refl; owner = refl })
     (proper (t .clock) s some (record { port = v .port; owner = v .owner; playing = v .playing; last = le-leb (t .clock) (t .clock) (omega arith) }))
 
--- A LIST with another element at a place
-module _ {A : Type 0} where
-  set-again : (l : List A) (i : ℕ) (a b : A) → set (set l i a) i b ≡ set l i b
-  set-again [] i a b = refl
-  set-again (x ∷ l) zero a b = refl
-  set-again (x ∷ l) (suc i) a b = ap (λ (r : List A). x ∷ r) (set-again l i a b)
-
-  first-alike : (p : A → Bool) (l : List A) (i : ℕ) (v d : A) → p v ≡ p (getD l i d) → first p (set l i v) ≡ first p l
-  first-alike p [] i v d e = refl
-  first-alike p (x ∷ l) zero v d e = rw e
-  first-alike p (x ∷ l) (suc i) v d e = rw (first-alike p l i v d e)
+-- the first of a kind stands where it stood, if what is set is of the kind of what was there
+first-alike : {A : Type 0} (p : A → Bool) (l : List A) (i : ℕ) (v d : A) → p v ≡ p (getD l i d) → first p (set l i v) ≡ first p l
+first-alike p [] i v d e = refl
+first-alike p (x ∷ l) zero v d e = rw e
+first-alike p (x ∷ l) (suc i) v d e = rw (first-alike p l i v d e)
 
 -- A SESSION THAT IS CHANGED AGAIN, or that closes, is as if it had not been changed before
 module _ (place : ℕ) (s : Session) (t : SatBox) where
   pub with-again : (u : Session) (id : ℕ) (m : Stream) → withSession place u (restreamed id m (withSession place s t)) ≡ withSession place u (restreamed id m t)
   unfolding withSession restreamed
-  with-again u id m = rw (set-again (t .sessions) place s u)
+  with-again u id m = rw (set-set (t .sessions) place s u)
 
   module _ (k : Alike s (sessionAt t place)) where
     seat-alike : {B : Type 0} (f : Session → B) → f s ≡ f (sessionAt t place) → f (sessionAt (withSession place s t) place) ≡ f (sessionAt t place)
@@ -107,7 +102,7 @@ module _ (place : ℕ) (s : Session) (t : SatBox) where
     close-again : (cause : ℕ) → closeOne cause place (withSession place s t) ≡ closeOne cause place t
     unfolding closeOne noting reseated withSession
     close-again cause =
-        rw (seat-alike (λ x. x .number) (k .number), seat-alike (λ x. x .stream) (k .stream), set-again (t .sessions) place s noSession)
+        rw (seat-alike (λ x. x .number) (k .number), seat-alike (λ x. x .stream) (k .stream), set-set (t .sessions) place s noSession)
 
     pub closing-again : (cause : ℕ) → closing cause place (withSession place s t) ≡ closing cause place t
     unfolding closing
