@@ -41,9 +41,10 @@ use Rattle.serving.specs.declared.opening.Client.{Client}
 use Rattle.serving.proofs.Kept.{seat, since, kept-by, kept-named, kept-alone, kept-place}
 use Rattle.satbox.specs.Calls.{requested, answerOf}
 use Rattle.promises.proofs.Requests.{answered-by, left, answered-still}
-use Rattle.promises.proofs.Keeps.{kept-isNamed, kept-session, kept-closes, merges-kept, merging-kept, case-kept, answered-case}
+use Rattle.promises.proofs.Keeps.{kept-isNamed, kept-session, kept-closes, merges-kept, merging-kept, case-kept, answered-case, seated-below}
 use Rattle.promises.proofs.Granting.{options-passes}
-use Rattle.promises.proofs.Methods.{but, options-refreshes, options-alone, other-alone, setup-replaces, play-marks, setup-joins, setup-opens, teardown-leaves, teardown-empties, names-keeps}
+use Rattle.promises.proofs.Methods.{but, options-refreshes, options-alone, other-alone, setup-replaces, play-marks, setup-joins, setup-opens, teardown-leaves, teardown-empties}
+use Rattle.promises.proofs.Naming.{names-keeps}
 
 -- A REQUEST "PASSES STEP 11": no step refuses it, or a later one does
 abbrev pub passesEleven : Case → Bool
@@ -151,10 +152,6 @@ module _ (s : List ℕ) (address draw : ℕ) (t : SatBox) where
   unfolding sightOf
   is-named h = lt-ltb place 32 h
 
-  named-place : isNamed (sightOf t asked) ≡ true → place < 32
-  unfolding sightOf
-  named-place y = ltb-true place 32 y
-
   unnamed-place : isNamed (sightOf t asked) ≡ false → place < 32 → ⊥
   unnamed-place n h = never (is-named h) n
 
@@ -168,7 +165,7 @@ module _ (s : List ℕ) (address draw : ℕ) (t : SatBox) where
   header-names y sent = by (case (isNamed (sightOf t asked)))
     where
       by : Test (isNamed (sightOf t asked)) → place < 32
-      by (is z) = named-place z
+      by (is z) = seated-below asked t z
       by (isnt n) = never y (ap passesEleven (answered-case s address draw t (was-read y) ∙ eleven-refuses t asked (listsOf s) n sent))
 
   -- "REFUSED AT STEPS 1 TO 11 IT SETS NOTHING": the table is as it was, and no record is written
@@ -181,7 +178,7 @@ module _ (s : List ℕ) (address draw : ℕ) (t : SatBox) where
       by : Test (isNamed (sightOf t asked)) → Test (reading.isRead (requestRefusal (t .settings .frontends) s)) → done .did ≡ nothing t
       by d (isnt m) = answered-still s address draw t unpassed ∙ rw m
       by (isnt m) (is y) = answered-still s address draw t unpassed ∙ rw (y, kept-alone asked t m)
-      by (is z) (is y) = never (eleven-passes (passed-is _ y) (named-place z) .passes) n
+      by (is z) (is y) = never (eleven-passes (passed-is _ y) (seated-below asked t z) .passes) n
 
   -- REFUSED LATER it sets the last time of the session that it names, and this field alone: no port, nothing of playing, no stream, no record
   pub refused-sets-it-alone : isPassed (done .case) ≡ false → Names → done .did ≡ nothing (withSession place (but (t .clock) (old .port) (old .playing) old) t)
@@ -197,7 +194,7 @@ module _ (s : List ℕ) (address draw : ℕ) (t : SatBox) where
   no-other-is-kept w i away was still = by (case (isPassed (done .case))) (methodOf s) refl (case (isNamed (sightOf t asked)))
     where
       kept-other : Test (isNamed (sightOf t asked)) → sessionAt (kept asked t) i ≡ sessionAt t i
-      kept-other (is z) = rw (kept-named asked t (named-place z)) (getD-set-other (t .sessions) place i _ noSession away)
+      kept-other (is z) = rw (kept-named asked t (seated-below asked t z)) (getD-set-other (t .sessions) place i _ noSession away)
       kept-other (isnt m) = rw (kept-alone asked t m)
 
       left-other : Test (reading.isRead (requestRefusal (t .settings .frontends) s)) → Test (isNamed (sightOf t asked)) → sessionAt (left s t) i ≡ sessionAt t i
@@ -209,9 +206,9 @@ module _ (s : List ℕ) (address draw : ℕ) (t : SatBox) where
 
       by : Test (isPassed (done .case)) → (m : Method) → methodOf s ≡ m → Test (isNamed (sightOf t asked)) → sessionAt after i ≡ sessionAt t i
       by (isnt n) m e c = ap (λ (d : Did). sessionAt (d .satbox) i) (answered-still s address draw t n) ∙ left-other (case _) c
-      by (is y) Options e (is z) = options-refreshes s address draw t w y e (named-place z) .changes .others i away
+      by (is y) Options e (is z) = options-refreshes s address draw t w y e (seated-below asked t z) .changes .others i away
       by (is y) Options e (isnt m) = ap (λ u. sessionAt u i) (options-alone s address draw t w y e (unnamed-place m))
-      by (is y) Setup e (is z) = setup-replaces s address draw t w y e (named-place z) .changes .others i away
+      by (is y) Setup e (is z) = setup-replaces s address draw t w y e (seated-below asked t z) .changes .others i away
       by (is y) Setup e (isnt m) = opens (sames (asked .stream) 0)
         where
           opens : Same (asked .stream) 0 → sessionAt after i ≡ sessionAt t i

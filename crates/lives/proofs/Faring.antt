@@ -43,7 +43,8 @@ use Rattle.closings.proofs.Keeping.{Whole, clock-whole}
 use Rattle.serving.proofs.Kept.{kept-alone}
 use Rattle.satbox.proofs.Kept.{sweeping-whole}
 use Rattle.promises.proofs.Requests.{answered-by, answered-still}
-use Rattle.promises.proofs.Methods.{Changes, options-alone, other-alone, play-marks, setup-joins, setup-opens, names-keeps}
+use Rattle.promises.proofs.Methods.{Changes, options-alone, other-alone, play-marks, setup-joins, setup-opens}
+use Rattle.promises.proofs.Naming.{names-keeps}
 use Rattle.lives.specs.Calls.{lent, Call, request, tick, collect, order, isCall, Life, live, run, recordsOf}
 use Rattle.lives.specs.Closed.{isClosingOf, Fares, remains, closed, placeNamedBy, KeepsAlive, naming}
 use Rattle.lives.proofs.Settings.{sweeping-set, requested-set}

@@ -39,7 +39,8 @@ use Rattle.closings.proofs.Leaving.{leaving, joiner-records, owner-records}
 use Rattle.closings.proofs.Runs.{upto-holds}
 use Rattle.satbox.proofs.Kept.{sweeping-whole}
 use Rattle.serving.proofs.Passing.{named-closable}
-use Rattle.promises.proofs.Methods.{Changes, but, Keeps, names-keeps}
+use Rattle.promises.proofs.Methods.{Changes, but}
+use Rattle.promises.proofs.Naming.{Keeps, names-keeps}
 use Rattle.lives.specs.Calls.{Lent, lent, Call, request, tick, collect, order, isCall, Life, live, run, recordsOf}
 use Rattle.lives.specs.Closed.{isTimeOut, Fares, placeNamedBy, TearsDown, in-teardown}
 use Rattle.lives.proofs.Requests.{Kin, Retuned, retuned-same, answered-holds}

@@ -6,6 +6,7 @@ pub mod Records
 pub mod Written
 pub mod Reading
 pub mod Methods
+pub mod Naming
 pub mod Asks
 pub mod EdgeLaws
 pub mod Edges

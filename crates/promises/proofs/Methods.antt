@@ -11,7 +11,7 @@ use lib.ListN.{length, getD, set}
 use lib.Seq.{getD-set-same, getD-set-other}
 use borrow.Author.Tests.{ne-eqb, eq-eqb, ltb-true, lt-ltb, le-ltb}
 use Rattle.scan.specs.Lists.{first}
-use Rattle.scan.proofs.Bools.{never, and-both, Case as Test, is as yes, isnt as no, case}
+use Rattle.scan.proofs.Bools.{never, and-both}
 use Rattle.aim.specs.declared.Method.{Method}
 use Rattle.aim.specs.declared.Method.the-variants.{Options, Setup, Play, Teardown, Other}
 use Rattle.refusals.specs.declared.Refusal.the-variants as refusal
@@ -82,14 +82,6 @@ but last port playing s =
       owner = s .owner;
       playing = playing;
     }
-
--- in u the session at a place has t's clock for its last time, with some port, playing or not, and some stream; every other is as it was, and nothing is
--- written
-pub record Keeps (t u : SatBox) (place : ℕ) : Type 0 where
-  pub port : ℕ
-  pub playing : ℕ
-  pub stream : Stream
-  pub quietly : Quietly t u place (but (t .clock) port playing (sessionAt t place)) (sessionAt t place .stream) stream
 
 -- a session that opens at the table's clock, and does not play
 abbrev pub newcomer : ℕ → ℕ → ℕ → ℕ → ℕ → SatBox → Session
@@ -242,7 +234,7 @@ module _ (s : List ℕ) (address draw : ℕ) (t : SatBox) where
     -- WHERE A SESSION IS NAMED: what is done to it on the table where it is kept, and nothing else, is done to it on the one before
     module _ (h : place < 32) where
       -- there is its last time set; the rest of it stays, and its stream
-      keeps : Quietly t k place (but (t .clock) (old .port) (old .playing) old) (old .stream) (streamOf t (old .stream))
+      pub keeps : Quietly t k place (but (t .clock) (old .port) (old .playing) old) (old .stream) (streamOf t (old .stream))
       keeps = rw (kept-named a t h) (replaced-quietly t w h _ (old .stream))
 
       kept-quietly : {v : SatBox} {x : Session} {id : ℕ} {m : Stream} → Quietly k v place x id m → Quietly t v place x id m
@@ -397,19 +389,3 @@ module _ (s : List ℕ) (address draw : ℕ) (t : SatBox) where
               streams = λ k h. rw ms (stream-other id k noStream (t .streams) h);
               settled = settled-same (f .settings) (f .clock);
             })
-
-    -- WHATEVER ITS METHOD AND ITS STATUS, order 3: "every request that passes step 11 and names an open session sets its last time", but one that closes it
-    pub names-keeps : requestRefusal (t .settings .frontends) s ≡ refusal.Passed → place < 32
-        → (methodOf s ≡ Teardown → isPassed (answered s address draw t .case) ≡ true → ⊥) → Keeps t u place
-    names-keeps read h untorn = by (case (isPassed (answered s address draw t .case)))
-      where
-        of : isPassed (answered s address draw t .case) ≡ true → (m : Method) → methodOf s ≡ m → Keeps t u place
-        of y Options e = record { port = _; playing = _; stream = _; quietly = options-refreshes y e h }
-        of y Setup e = record { port = _; playing = _; stream = _; quietly = setup-replaces y e h }
-        of y Play e = record { port = _; playing = _; stream = _; quietly = play-marks y e }
-        of y Teardown e = absurd (untorn e y)
-        of y Other e = rw (other-alone y e) (record { port = _; playing = _; stream = _; quietly = keeps h })
-
-        by : Test (isPassed (answered s address draw t .case)) → Keeps t u place
-        by (yes y) = of y (methodOf s) refl
-        by (no n) = record { port = _; playing = _; stream = _; quietly = refused-keeps read n h }
