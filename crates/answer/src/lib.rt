@@ -58,7 +58,7 @@ fn put_setup(buf: &mut [u8], at: usize, a: Answer) -> usize
     ensures { λ r. ⌜ Wrote (now (buf .entry)) at (setupLines (a .session) (a .address) (a .port) (a .stream)) (now (buf .exit)) r ⌝ }
 {
     let n = put_session(buf, at, a.session);
-    let m = writing::put(buf, n, b";timeout=60\r\n");
+    let m = writing::put_text(buf, n, b";timeout=60\r\n");
     let k = put_transport(buf, m, a.address, a.port);
     put_stream_id(buf, k, a.stream)
 }
@@ -67,7 +67,7 @@ fn put_play(buf: &mut [u8], at: usize, a: Answer, request: &[u8]) -> usize
     ensures { λ r. ⌜ Wrote (now (buf .entry)) at (playLines (a .session) (textAt (now (request .entry)) (a .text)) (a .stream)) (now (buf .exit)) r ⌝ }
 {
     let n = put_session_line(buf, at, a.session);
-    let m = writing::put(buf, n, b"RTP-Info: url=rtsp://");
+    let m = writing::put_text(buf, n, b"RTP-Info: url=rtsp://");
     let k = put_part(buf, m, request, a.text);
     put_stream(buf, k, a.stream)
 }
@@ -78,7 +78,7 @@ fn put_lines(buf: &mut [u8], at: usize, a: Answer, request: &[u8]) -> usize
 {
     let kind = a.kind;
     match kind {
-        Kind::Bare => writing::put(buf, at, b""),
+        Kind::Bare => writing::put_text(buf, at, b""),
         Kind::Allow => put_allow(buf, at),
         Kind::Public => put_public(buf, at),
         Kind::Unsupported => put_unsupported(buf, at, request, a.text),
@@ -97,5 +97,5 @@ pub fn write(buf: &mut [u8], a: Answer, request: &[u8]) -> usize
     let n = put_status(buf, 0, a.status);
     let m = put_cseq(buf, n, request, cseq);
     let k = put_lines(buf, m, a, request);
-    writing::put(buf, k, b"\r\n")
+    writing::put_text(buf, k, b"\r\n")
 }

@@ -14,10 +14,10 @@ pub(crate) fn put_cseq(buf: &mut [u8], at: usize, request: &[u8], place: Span) -
     let start = place.start;
     let end = place.end;
     if end <= start {
-        return writing::put(buf, at, b"");
+        return writing::put_text(buf, at, b"");
     }
     if request.len() < end {
-        return writing::put(buf, at, b"");
+        return writing::put_text(buf, at, b"");
     }
     put_sequence(buf, at, &request[start..end])
 }
@@ -25,9 +25,9 @@ pub(crate) fn put_cseq(buf: &mut [u8], at: usize, request: &[u8], place: Span) -
 fn put_sequence(buf: &mut [u8], at: usize, digits: &[u8]) -> usize
     ensures { λ r. ⌜ Wrote (now (buf .entry)) at (line "CSeq: " (now (digits .entry))) (now (buf .exit)) r ⌝ }
 {
-    let n = writing::put(buf, at, b"CSeq: ");
+    let n = writing::put_text(buf, at, b"CSeq: ");
     let m = writing::put(buf, n, digits);
-    writing::put(buf, m, b"\r\n")
+    writing::put_text(buf, m, b"\r\n")
 }
 
 // A number that ends its line.
@@ -35,14 +35,14 @@ fn put_number(buf: &mut [u8], at: usize, v: u32) -> usize
     ensures { λ r. ⌜ Wrote (now (buf .entry)) at (decimal v & text "\r\n") (now (buf .exit)) r ⌝ }
 {
     let n = writing::put_decimal(buf, at, v);
-    writing::put(buf, n, b"\r\n")
+    writing::put_text(buf, n, b"\r\n")
 }
 
 // A session's line without its end.
 pub(crate) fn put_session(buf: &mut [u8], at: usize, session: u32) -> usize
     ensures { λ r. ⌜ Wrote (now (buf .entry)) at (text "Session: " & hex8 session) (now (buf .exit)) r ⌝ }
 {
-    let n = writing::put(buf, at, b"Session: ");
+    let n = writing::put_text(buf, at, b"Session: ");
     writing::put_hex(buf, n, session)
 }
 
@@ -50,13 +50,13 @@ pub(crate) fn put_session_line(buf: &mut [u8], at: usize, session: u32) -> usize
     ensures { λ r. ⌜ Wrote (now (buf .entry)) at (sessionLine session (text "\r\n")) (now (buf .exit)) r ⌝ }
 {
     let n = put_session(buf, at, session);
-    writing::put(buf, n, b"\r\n")
+    writing::put_text(buf, n, b"\r\n")
 }
 
 pub(crate) fn put_stream_id(buf: &mut [u8], at: usize, stream: u32) -> usize
     ensures { λ r. ⌜ Wrote (now (buf .entry)) at (line "com.ses.streamID: " (decimal stream)) (now (buf .exit)) r ⌝ }
 {
-    let n = writing::put(buf, at, b"com.ses.streamID: ");
+    let n = writing::put_text(buf, at, b"com.ses.streamID: ");
     put_number(buf, n, stream)
 }
 
@@ -64,20 +64,20 @@ pub(crate) fn put_stream_id(buf: &mut [u8], at: usize, stream: u32) -> usize
 pub(crate) fn put_stream(buf: &mut [u8], at: usize, stream: u32) -> usize
     ensures { λ r. ⌜ Wrote (now (buf .entry)) at (line "/stream=" (decimal stream)) (now (buf .exit)) r ⌝ }
 {
-    let n = writing::put(buf, at, b"/stream=");
+    let n = writing::put_text(buf, at, b"/stream=");
     put_number(buf, n, stream)
 }
 
 pub(crate) fn put_public(buf: &mut [u8], at: usize) -> usize
     ensures { λ r. ⌜ Wrote (now (buf .entry)) at publicLine (now (buf .exit)) r ⌝ }
 {
-    writing::put(buf, at, b"Public: OPTIONS, SETUP, PLAY, TEARDOWN\r\n")
+    writing::put_text(buf, at, b"Public: OPTIONS, SETUP, PLAY, TEARDOWN\r\n")
 }
 
 pub(crate) fn put_allow(buf: &mut [u8], at: usize) -> usize
     ensures { λ r. ⌜ Wrote (now (buf .entry)) at (refusedLines 10 []) (now (buf .exit)) r ⌝ }
 {
-    writing::put(buf, at, b"Allow: OPTIONS\r\n")
+    writing::put_text(buf, at, b"Allow: OPTIONS\r\n")
 }
 
 // What stands at a place of the request; nothing where there is no such place.
@@ -87,10 +87,10 @@ pub(crate) fn put_part(buf: &mut [u8], at: usize, request: &[u8], place: Span) -
     let start = place.start;
     let end = place.end;
     if end < start {
-        return writing::put(buf, at, b"");
+        return writing::put_text(buf, at, b"");
     }
     if request.len() < end {
-        return writing::put(buf, at, b"");
+        return writing::put_text(buf, at, b"");
     }
     writing::put(buf, at, &request[start..end])
 }
@@ -98,15 +98,15 @@ pub(crate) fn put_part(buf: &mut [u8], at: usize, request: &[u8], place: Span) -
 pub(crate) fn put_unsupported(buf: &mut [u8], at: usize, request: &[u8], value: Span) -> usize
     ensures { λ r. ⌜ Wrote (now (buf .entry)) at (refusedLines 5 (textAt (now (request .entry)) value)) (now (buf .exit)) r ⌝ }
 {
-    let n = writing::put(buf, at, b"Unsupported: ");
+    let n = writing::put_text(buf, at, b"Unsupported: ");
     let m = put_part(buf, n, request, value);
-    writing::put(buf, m, b"\r\n")
+    writing::put_text(buf, m, b"\r\n")
 }
 
 fn put_second(buf: &mut [u8], at: usize, port: u32) -> usize
     ensures { λ r. ⌜ Wrote (now (buf .entry)) at (line "-" (decimal port)) (now (buf .exit)) r ⌝ }
 {
-    let n = writing::put(buf, at, b"-");
+    let n = writing::put_text(buf, at, b"-");
     put_number(buf, n, port)
 }
 
@@ -115,9 +115,9 @@ pub(crate) fn put_transport(buf: &mut [u8], at: usize, address: u32, port: u32) 
     ensures { λ r. ⌜ Wrote (now (buf .entry)) at (transportLine address port) (now (buf .exit)) r ⌝ }
 {
     let second = std::num::wrapping_add_u32(port, 1);
-    let n = writing::put(buf, at, b"Transport: RTP/AVP;unicast;destination=");
+    let n = writing::put_text(buf, at, b"Transport: RTP/AVP;unicast;destination=");
     let m = writing::put_dotted(buf, n, address);
-    let k = writing::put(buf, m, b";client_port=");
+    let k = writing::put_text(buf, m, b";client_port=");
     let l = writing::put_decimal(buf, k, port);
     put_second(buf, l, second)
 }

@@ -21,7 +21,7 @@ use table::Settings;
 // The two numbers of the file VERSION.
 const FIRST: u32 = 1;
 
-const SECOND: u32 = 3;
+const SECOND: u32 = 4;
 
 // Makes a fresh box of the one that is lent; where that is refused, it stays.
 #[no_mangle]

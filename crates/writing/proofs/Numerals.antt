@@ -5,13 +5,13 @@ use mathlib.Core.Bool.{Bool, true, false, _&&_, and-false}
 use mathlib.Core.List.{List, [], _∷_, _++_, map}
 use Prim.Native.Nat.{ℕ, zero, suc, _+_, _-_, _/_, _%_, _^_, _≤_, _<_, min}
 use native.Mathlib.Decide.{decLt}
-use native.Mathlib.Nat.{add-zero, zero-add, add-suc, suc-add, pow-suc, div-lt-iff-lt-mul, mod-lt, mod-eq-of-lt, pow-le-pow-right}
+use native.Mathlib.Nat.{pow-suc, div-lt-iff-lt-mul, mod-lt, mod-eq-of-lt, pow-le-pow-right}
 use native.Mathlib.Omega.{arith}
-use lib.Dec.{ltb, eqb}
+use lib.Dec.{ltb}
 use lib.ListN.{length, getD, set, length-append, length-map, length-set, List·getD-append}
 use lib.Seq.{sets}
-use borrow.Author.Tests.{le-leb, lt-leb, lt-ltb, le-ltb, ne-eqb, eqb-true}
-use Rattle.scan.proofs.Bools.{by-cases, and-both}
+use borrow.Author.Tests.{le-leb, lt-leb, lt-ltb, le-ltb, ne-eqb}
+use Rattle.scan.proofs.Bools.{by-cases}
 use Rattle.scan.specs.Text.{text, _&_}
 use Rattle.digits.specs.Reading.{digitsIn, valueIn, digitOf, areDigits, spelled, readIn, hasLeadingZero, readNumber, readHex8}
 use Rattle.writing.specs.Writing.{shown, numeral, widthIn, width, decimal, hex8, dotted, written}
@@ -146,23 +146,9 @@ pub numbering-fits : {b d : List ℕ} {at base count v i rest : ℕ} → Numberi
     → Wrote b at (numeral base count v) d (at + count)
 numbering-fits n h f = numbering-end n h (rw (n .kept) (omega arith))
 
--- the byte of a decimal digit, and of a hexadecimal one by its place
+-- the byte of a decimal digit
 pub ten-shown : (v : ℕ) → 48 + v % 10 ≡ shown (v % 10)
 ten-shown v = let h : v % 10 < 10 = omega arith in rw (lt-ltb (v % 10) 10 h)
-
--- the bytes of a list show the digits from i on
-abbrev areShown : ℕ → List ℕ → Bool
-areShown i [] = true
-areShown i (x ∷ xs) = eqb x (shown i) && areShown (suc i) xs
-
-shown-along : (xs : List ℕ) (i k : ℕ) → areShown i xs ≡ true → k < length xs → getD xs k 0 ≡ shown (i + k)
-shown-along [] i k e h = absurd (omega arith)
-shown-along (x ∷ xs) i zero e h = rw add-zero (eqb-true x (shown i) (and-both (eqb x (shown i)) (areShown (suc i) xs) e .0))
-shown-along (x ∷ xs) i (suc k) e h =
-    rw (add-suc, ← suc-add) (shown-along xs (suc i) k (and-both (eqb x (shown i)) (areShown (suc i) xs) e .1) (omega arith))
-
-pub sixteen-shown : (v : ℕ) → getD (text "0123456789ABCDEF") (v % 16) 0 ≡ shown (v % 16)
-sixteen-shown v = shown-along (text "0123456789ABCDEF") 0 (v % 16) refl (omega arith) ∙ ap shown (zero-add (v % 16))
 
 -- WHAT IS WRITTEN IS READ BACK
 digit-shown : (d : ℕ) → d < 16 → digitOf (shown d) ≡ d

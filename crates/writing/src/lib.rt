@@ -6,6 +6,9 @@ ghost use lib.ListN.{length, set};
 ghost use Rattle.writing.specs.Writing.{shown, numeral, width, decimal, hex8, dotted, written};
 ghost use Rattle.writing.specs.Wrote.{Wrote};
 
+// The bytes of a short text.
+const SHORT: usize = 17;
+
 // The place after `count` bytes from place `at` on, or one past `len` where they do not fit.
 fn place_after(len: usize, at: usize, count: usize) -> usize
     requires { ⌜ (at ≤ len) × (len < 9223372036854775808) ⌝ }
@@ -52,8 +55,7 @@ fn put_some(buf: &mut [u8], at: usize, t: &[u8])
     }
 }
 
-// Puts the text into the buffer at a place, as far as the buffer reaches, and returns the place after it. A short text of a known length, which
-// is nowhere read at a place that is not, costs its stores alone.
+// Puts bytes that stand in another buffer at a place, as far as the buffer reaches, and returns the place after them.
 pub fn put(buf: &mut [u8], at: usize, t: &[u8]) -> usize
     ensures { λ r. ⌜ Wrote (now (buf .entry)) at (now (t .entry)) (now (buf .exit)) r ⌝ }
 {
@@ -64,13 +66,37 @@ pub fn put(buf: &mut [u8], at: usize, t: &[u8]) -> usize
     let room = len - at;
     if t.len() <= room {
         put_all(buf, at, t)
-    } else if t.len() <= 12 {
-        put_some(buf, at, t);
-        len + 1
     } else {
         put_all(buf, at, &t[0..room]);
         len + 1
     }
+}
+
+// The same of a short text, byte by byte where it does not fit.
+fn put_short(buf: &mut [u8], at: usize, t: &[u8]) -> usize
+    ensures { λ r. ⌜ Wrote (now (buf .entry)) at (now (t .entry)) (now (buf .exit)) r ⌝ }
+{
+    let end = buf.len();
+    if end < at {
+        return end + 1;
+    }
+    if t.len() <= end - at {
+        put_all(buf, at, t)
+    } else {
+        put_some(buf, at, t);
+        end + 1
+    }
+}
+
+// The same of a text of the program. A short one is nowhere read at a place that is not known when it is compiled, so that none of it stands on
+// the stack: its bytes are numbers in the instructions that store them.
+pub fn put_text(buf: &mut [u8], at: usize, t: &[u8]) -> usize
+    ensures { λ r. ⌜ Wrote (now (buf .entry)) at (now (t .entry)) (now (buf .exit)) r ⌝ }
+{
+    if SHORT < t.len() {
+        return put(buf, at, t);
+    }
+    put_short(buf, at, t)
 }
 
 // The byte that shows a digit, upper-case.
@@ -153,12 +179,11 @@ fn put_sixteens(buf: &mut [u8], at: usize, v: u32) -> usize
     requires { ⌜ at + 8 ≤ length (now buf) ⌝ }
     ensures { λ r. ⌜ Wrote (now (buf .entry)) at (numeral 16 8 v) (now (buf .exit)) r ⌝ }
 {
-    let digits = b"0123456789ABCDEF";
     let mut i = 8;
     let mut rest = v;
     while 0 < i {
         i -= 1;
-        buf[at + i] = digits[(rest % 16) as usize];
+        buf[at + i] = shown_digit(rest % 16);
         rest = rest / 16;
     }
     at + 8
@@ -182,10 +207,10 @@ pub fn put_dotted(buf: &mut [u8], at: usize, address: u32) -> usize
     ensures { λ r. ⌜ Wrote (now (buf .entry)) at (dotted address) (now (buf .exit)) r ⌝ }
 {
     let n = put_decimal(buf, at, address / 16777216);
-    let n = put(buf, n, b".");
+    let n = put_text(buf, n, b".");
     let n = put_decimal(buf, n, address / 65536 % 256);
-    let n = put(buf, n, b".");
+    let n = put_text(buf, n, b".");
     let n = put_decimal(buf, n, address / 256 % 256);
-    let n = put(buf, n, b".");
+    let n = put_text(buf, n, b".");
     put_decimal(buf, n, address % 256)
 }

@@ -4,7 +4,7 @@ use Rattle.answer.proofs.put_lines.Statement.{statement}
 use Rattle.answer.proofs.put_lines.Tie as tie
 
 returns : tie.Need-returns
-returns c = let c1 = c .before .before in rw (c1 .before .before .before .enum-told .given .1) (c1 .put .ensures)
+returns c = let c1 = c .before .before in rw (c1 .before .before .before .enum-told .given .1) (c1 .put-text .ensures)
 
 returns-2 : tie.Need-returns-2
 returns-2 c = let c1 = c .before .before in rw (c1 .before .before .enum-told2 .given .1) (c1 .put-allow .ensures)

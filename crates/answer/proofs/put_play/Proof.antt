@@ -11,7 +11,7 @@ returns c =
     let c2 = c3 .before .before .before .before in
     let c1 = c2 .before .before .before .before .before in
     c1 .put-session-line .ensures
-    then c2 .put .ensures
+    then c2 .put-text .ensures
     then c3 .put-part .ensures
     then c4 .put-stream .ensures
 

@@ -10,7 +10,7 @@ returns c =
     let c3 = c4 .before .before .before .before in
     let c2 = c3 .before .before .before .before in
     let c1 = c2 .before .before .before .before .before in
-    (c1 .put-session .ensures then c2 .put .ensures)
+    (c1 .put-session .ensures then c2 .put-text .ensures)
     then c3 .put-transport .ensures
     then c4 .put-stream-id .ensures
 

@@ -16,7 +16,7 @@ returns c =
     (c1 .put-status .ensures
     then c2 .put-cseq .ensures
     then c3 .put-lines .ensures
-    then c4 .put .ensures)
+    then c4 .put-text .ensures)
 
 pub write-spec : {M : Type 1} → statement M
 write-spec =

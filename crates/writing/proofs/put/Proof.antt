@@ -4,21 +4,13 @@ use Rattle.writing.proofs.Writes.{wrote-past, wrote-some}
 use Rattle.writing.proofs.put.Statement.{statement}
 use Rattle.writing.proofs.put.Tie as tie
 
-returns : tie.Need-returns
-returns c = search (wrote-past, needs)
-
-returns-4 : tie.Need-returns-4
-returns-4 c = search (wrote-some, needs)
-
 pub put-spec : {M : Type 1} → statement M
 put-spec =
     tie.close
     (tie.spec
     (λ c. search needs)
-    returns
+    (λ c. search (wrote-past, needs))
     (λ c κs. search needs)
-    (λ c κs. search needs)
-    (λ c. search needs)
     (λ c. search needs)
     (λ c. search needs)
     (λ c. search needs)
@@ -27,6 +19,4 @@ put-spec =
     (λ c. search needs)
     (λ c. search needs)
     (λ c. search needs)
-    (λ c. search needs)
-    (λ c. search needs)
-    returns-4)
+    (λ c. search (wrote-some, needs)))

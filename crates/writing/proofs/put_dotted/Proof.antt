@@ -17,11 +17,11 @@ returns c =
     let start = c1 .before .before .before in
     rw (dotted-octets (start .args .address))
     (c1 .put-decimal .ensures
-    then c2 .put .ensures
+    then c2 .put-text .ensures
     then c3 .put-decimal2 .ensures
-    then c4 .put2 .ensures
+    then c4 .put-text2 .ensures
     then c5 .put-decimal3 .ensures
-    then c6 .put3 .ensures
+    then c6 .put-text3 .ensures
     then c7 .put-decimal4 .ensures)
 
 pub put-dotted-spec : {M : Type 1} → statement M

@@ -2,20 +2,18 @@
 -- Assumes nothing.
 use mathlib.Core.Path.{refl}
 use borrow.Author.Needs.{needs}
-use Rattle.writing.proofs.Numerals.{Numbering, numbering-start, numbering-more, numbering-fits, sixteen-shown}
+use Rattle.writing.proofs.Numerals.{Numbering, numbering-start, numbering-more, numbering-fits}
 use Rattle.writing.proofs.put_sixteens.Statement.{statement}
 use Rattle.writing.proofs.put_sixteens.Tie as tie
 
 abbrev Inv-loop : tie.InvT-loop
-Inv-loop buf₀ at v digits i₀ rest₀ buf i rest = Numbering buf₀ at 16 8 v buf i rest
+Inv-loop buf₀ at v i₀ rest₀ buf i rest = Numbering buf₀ at 16 8 v buf i rest
 
 abbrev μ-loop : tie.MeasureT-loop
-μ-loop buf₀ at v digits i₀ rest₀ buf i rest = i
+μ-loop buf₀ at v i₀ rest₀ buf i rest = i
 
 loop-again : tie.Need-loop-again Inv-loop μ-loop
-loop-again c =
-    let l = c .before .before in
-    numbering-more (l .loop .inv) (c .before .loop-test .taken) (sixteen-shown (l .loop .rest)) refl
+loop-again c = numbering-more (c .before .before .loop .inv) (c .before .loop-test .taken) (c .shown-digit .ensures) refl
 
 pub put-sixteens-spec : {M : Type 1} → statement M
 put-sixteens-spec =
@@ -25,8 +23,7 @@ put-sixteens-spec =
     μ-loop
     (λ c. search numbering-start)
     (λ c. search needs)
-    (λ c. search needs)
-    (λ c. search needs)
+    (λ c κs. search needs)
     (λ c. search needs)
     (λ c. search needs)
     (λ c. search needs)

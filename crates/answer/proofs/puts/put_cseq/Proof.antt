@@ -11,14 +11,14 @@ returns c =
     let c1 = c .before .before in
     let i = c1 .before .before .before in
     let a = i .before .before .before .args in
-    rw (text-none (a .request .now) (a .place) (omega (arith, i .if1 .taken))) (c1 .put .ensures)
+    rw (text-none (a .request .now) (a .place) (omega (arith, i .if1 .taken))) (c1 .put-text .ensures)
 
 returns-2 : tie.Need-returns-2
 returns-2 c =
     let c1 = c .before .before in
     let i = c1 .before .before .before in
     let a = i .before .before .before .before .args in
-    rw (text-outside (a .request .now) (a .place) (i .if2 .taken)) (c1 .put2 .ensures)
+    rw (text-outside (a .request .now) (a .place) (i .if2 .taken)) (c1 .put-text2 .ensures)
 
 returns-3 : tie.Need-returns-3
 returns-3 c =

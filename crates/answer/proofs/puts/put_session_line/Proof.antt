@@ -9,7 +9,7 @@ returns c =
     let c2 = c .before .before in
     let c1 = c2 .before .before .before .before .before in
     c1 .put-session .ensures
-    then c2 .put .ensures
+    then c2 .put-text .ensures
 
 pub put-session-line-spec : {M : Type 1} → statement M
 put-session-line-spec =

@@ -15,9 +15,9 @@ returns c =
     let c3 = c4 .before .before .before .before .before in
     let c2 = c3 .before .before .before .before in
     let c1 = c2 .before .before .before in
-    c2 .put .ensures
+    c2 .put-text .ensures
     then c3 .put-dotted .ensures
-    then c4 .put2 .ensures
+    then c4 .put-text2 .ensures
     then c5 .put-decimal .ensures
     then wrote-as (ap (λ p. line "-" (decimal p)) (c1 .wrapping-add-u32 .ensures)) (c6 .put-second .ensures)
 
