@@ -1,4 +1,5 @@
 -- `writing::shown_digit` meets its contract. Assumes nothing.
+use mathlib.Core.Path.{refl}
 use borrow.Author.Needs.{needs}
 use borrow.Author.Tests.{lt-ltb, le-ltb}
 use Rattle.writing.proofs.shown_digit.Statement.{statement}
@@ -13,5 +14,5 @@ shown-digit-spec =
     (λ c. search needs)
     (λ c. search needs)
     (λ c. search needs)
-    (λ c. simp (lt-ltb _ _ (c .if1 .taken)))
-    (λ c. simp (le-ltb _ _ (c .if1 .left))))
+    (λ c. rw (lt-ltb _ _ (c .if1 .taken)) refl)
+    (λ c. rw (le-ltb _ _ (c .if1 .left)) (search needs)))
