@@ -17,6 +17,12 @@ fn put(at: usize, t: &[u8]) {
     show(&buf, next);
 }
 
+fn put_text(at: usize, t: &[u8]) {
+    let mut buf = [b'.'; 8];
+    let next = writing::put_text(&mut buf, at, t);
+    show(&buf, next);
+}
+
 fn decimal(at: usize, v: u32) {
     let mut buf = [b'.'; 12];
     let next = writing::put_decimal(&mut buf, at, v);
@@ -46,6 +52,17 @@ fn texts() {
     put(18446744073709551615, b"text");
 }
 
+fn own_texts() {
+    put_text(0, b"");
+    put_text(4, b"text");
+    put_text(5, b"text");
+    put_text(8, b"text");
+    put_text(9, b"");
+    put_text(18446744073709551615, b"text");
+    put_text(1, b"seventeen bytes..");
+    put_text(1, b"eighteen bytes ...");
+}
+
 fn decimals() {
     decimal(1, 0);
     decimal(1, 9);
@@ -69,6 +86,7 @@ fn others() {
 
 pub(crate) fn run() {
     texts();
+    own_texts();
     decimals();
     others();
 }
