@@ -1,6 +1,6 @@
 -- A text whose length stands before it, as a body behind its Content-Length: one walk counts it and the next one writes it, over one definition,
 -- so that no part of it is kept anywhere between the two. Assumes nothing.
-use mathlib.Core.Path.{_≡_, refl, _∙_, ap}
+use mathlib.Core.Path.{_≡_, ap}
 use mathlib.Core.List.{List, [], _++_}
 use Prim.Native.Nat.{ℕ, _+_, _≤_, min}
 use native.Mathlib.Omega.{arith}

@@ -146,10 +146,6 @@ pub numbering-fits : {b d : List ℕ} {at base count v i rest : ℕ} → Numberi
     → Wrote b at (numeral base count v) d (at + count)
 numbering-fits n h f = numbering-end n h (rw (n .kept) (omega arith))
 
--- the byte of a decimal digit
-pub ten-shown : (v : ℕ) → 48 + v % 10 ≡ shown (v % 10)
-ten-shown v = let h : v % 10 < 10 = omega arith in rw (lt-ltb (v % 10) 10 h)
-
 -- WHAT IS WRITTEN IS READ BACK
 digit-shown : (d : ℕ) → d < 16 → digitOf (shown d) ≡ d
 digit-shown d h =

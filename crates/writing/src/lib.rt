@@ -142,17 +142,17 @@ fn decimal_width(v: u32) -> usize
     n
 }
 
-// Puts the last `count` decimal digits of v, which fit, from the last to the first.
-fn put_tens(buf: &mut [u8], at: usize, v: u32, count: usize) -> usize
-    requires { ⌜ at + count ≤ length (now buf) ⌝ }
-    ensures { λ r. ⌜ Wrote (now (buf .entry)) at (numeral 10 count v) (now (buf .exit)) r ⌝ }
+// Puts the last `count` digits of v, which fit, from the last to the first.
+fn put_fitting(buf: &mut [u8], at: usize, v: u32, base: u32, count: usize) -> usize
+    requires { ⌜ (0 < base) × (base ≤ 16) × (at + count ≤ length (now buf)) ⌝ }
+    ensures { λ r. ⌜ Wrote (now (buf .entry)) at (numeral base count v) (now (buf .exit)) r ⌝ }
 {
     let mut i = count;
     let mut rest = v;
     while 0 < i {
         i -= 1;
-        buf[at + i] = b'0' + (rest % 10) as u8;
-        rest = rest / 10;
+        buf[at + i] = shown_digit(rest % base);
+        rest = rest / base;
     }
     at + count
 }
@@ -171,22 +171,7 @@ pub fn put_decimal(buf: &mut [u8], at: usize, v: u32) -> usize
         buf[at] = b'0' + v as u8;
         return at + 1;
     }
-    put_tens(buf, at, v, decimal_width(v))
-}
-
-// Puts the eight hexadecimal digits of v, which fit, from the last to the first.
-fn put_sixteens(buf: &mut [u8], at: usize, v: u32) -> usize
-    requires { ⌜ at + 8 ≤ length (now buf) ⌝ }
-    ensures { λ r. ⌜ Wrote (now (buf .entry)) at (numeral 16 8 v) (now (buf .exit)) r ⌝ }
-{
-    let mut i = 8;
-    let mut rest = v;
-    while 0 < i {
-        i -= 1;
-        buf[at + i] = shown_digit(rest % 16);
-        rest = rest / 16;
-    }
-    at + 8
+    put_fitting(buf, at, v, 10, decimal_width(v))
 }
 
 // Puts a number in eight upper-case hexadecimal digits.
@@ -199,7 +184,7 @@ pub fn put_hex(buf: &mut [u8], at: usize, v: u32) -> usize
     if buf.len() - at < 8 {
         return put_digits(buf, at, v, 16, 8);
     }
-    put_sixteens(buf, at, v)
+    put_fitting(buf, at, v, 16, 8)
 }
 
 // Puts an address as its four octets in decimal with dots between them, the highest octet first.
