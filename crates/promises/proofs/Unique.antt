@@ -103,6 +103,9 @@ digits-is-value κs a x y v w = same
 pub writing-put : Unique writing.put.ended writing.put.Reads.Post
 writing-put κs a x y v w = wrote
 
+pub writing-put-text : Unique writing.put_text.ended writing.put_text.Reads.Post
+writing-put-text κs a x y v w = wrote
+
 pub writing-put-decimal : Unique writing.put_decimal.ended writing.put_decimal.Reads.Post
 writing-put-decimal κs a x y v w = wrote
 

@@ -6,7 +6,7 @@ ghost use lib.ListN.{length, set};
 ghost use Rattle.writing.specs.Writing.{shown, numeral, width, decimal, hex8, dotted, written};
 ghost use Rattle.writing.specs.Wrote.{Wrote};
 
-// The bytes of a short text.
+// The bytes that a short text has at most.
 const SHORT: usize = 17;
 
 // The place after `count` bytes from place `at` on, or one past `len` where they do not fit.
@@ -55,7 +55,7 @@ fn put_some(buf: &mut [u8], at: usize, t: &[u8])
     }
 }
 
-// Puts bytes that stand in another buffer at a place, as far as the buffer reaches, and returns the place after them.
+// Puts bytes of another buffer at a place of this one, as far as it reaches, and returns the place after them.
 pub fn put(buf: &mut [u8], at: usize, t: &[u8]) -> usize
     ensures { λ r. ⌜ Wrote (now (buf .entry)) at (now (t .entry)) (now (buf .exit)) r ⌝ }
 {
