@@ -1,6 +1,7 @@
 // The calls of the box but requests: a box, a tick, a collection and a frontend's order; and what every call makes of a spoilt table.
 use crate::{asking, fields, lent, out, show, words};
 use orders::Ordered;
+use std::io;
 use table::{SatBox, Settings};
 
 // The sets that a line gives from its third number on; all four sources where it gives none.
@@ -15,7 +16,7 @@ fn sets(line: &[u8]) -> [u8; 8] {
 }
 
 // `box F C`, and the set of sources of each frontend from the first on where it does not reach all four
-pub(crate) fn make(journal: &mut [u8], line: &[u8]) -> SatBox {
+pub(crate) fn make(rt: &impl Print, journal: &mut [u8], line: &[u8]) -> io::Result<SatBox> {
     let frontends = fields::medium(words::number(line, 1));
     let reach = sets(line);
     let made = SatBox::fresh(Settings {
@@ -27,94 +28,115 @@ pub(crate) fn make(journal: &mut [u8], line: &[u8]) -> SatBox {
     let t = made.satbox;
     let outcome = made.outcome;
     lent::fill(journal, lent::UNWRITTEN);
-    show::outcome(b" ", outcome);
-    show::state(t);
-    t
+    show::outcome(rt, b" ", outcome)?;
+    show::state(rt, t)?;
+    Ok(t)
 }
 
 // `tick CLOCK`, and the length of the journal lent where it is not the box's.
-pub(crate) fn tick(t: SatBox, journal: &mut [u8], line: &[u8]) -> SatBox {
+pub(crate) fn tick(
+    rt: &impl Print,
+    t: SatBox,
+    journal: &mut [u8],
+    line: &[u8],
+) -> io::Result<SatBox> {
     let clock = words::number(line, 1);
     let n = lent::at_most(journal.len(), words::number_or(line, 2, t.settings.size));
     let r = satbox::tick(t, clock, &mut journal[0..n]);
     let u = r.satbox;
     let outcome = r.outcome;
-    show::outcome(b" ", outcome);
-    show::state(u);
-    show::records(journal, t.held, u.held);
-    u
+    show::outcome(rt, b" ", outcome)?;
+    show::state(rt, u)?;
+    show::records(rt, journal, t.held, u.held)?;
+    Ok(u)
 }
 
-fn collect_into(t: SatBox, journal: &[u8], buffer: &mut [u8]) -> SatBox {
+fn collect_into(
+    rt: &impl Print,
+    t: SatBox,
+    journal: &[u8],
+    buffer: &mut [u8],
+) -> io::Result<SatBox> {
     lent::prepare(buffer);
     let r = satbox::collect(t, journal, buffer);
     let u = r.satbox;
     let outcome = r.outcome;
-    show::outcome(b" ", outcome);
-    lent::show(buffer, r.count);
-    show::state(u);
-    show::records(buffer, 0, r.count);
-    u
+    show::outcome(rt, b" ", outcome)?;
+    lent::show(rt, buffer, r.count)?;
+    show::state(rt, u)?;
+    show::records(rt, buffer, 0, r.count)?;
+    Ok(u)
 }
 
 // `collect LENGTH`, and the length of the journal lent where it is not the box's.
-pub(crate) fn collect(t: SatBox, journal: &[u8], line: &[u8]) -> SatBox {
+pub(crate) fn collect(
+    rt: &impl Print,
+    t: SatBox,
+    journal: &[u8],
+    line: &[u8],
+) -> io::Result<SatBox> {
     let mut buffer = [0u8; 65536];
     let n = lent::at_most(65536, words::number(line, 1));
     let k = lent::at_most(journal.len(), words::number_or(line, 2, t.settings.size));
-    collect_into(t, &journal[0..k], &mut buffer[0..n])
+    collect_into(rt, t, &journal[0..k], &mut buffer[0..n])
 }
 
-fn show_order(label: &[u8], t: SatBox, n: u32) {
+fn show_order(rt: &impl Print, label: &[u8], t: SatBox, n: u32) -> io::Result<()> {
     let order = orders::frontend_order(t, n);
     let outcome = order.outcome;
     match outcome {
         Ordered::On => {
-            out::text(label);
-            out::text(b" on");
-            show::stream(order.stream);
+            out::text(rt, label)?;
+            out::text(rt, b" on")?;
+            show::stream(rt, order.stream)?;
         }
         Ordered::Off => {
-            out::text(label);
-            out::text(b" off");
+            out::text(rt, label)?;
+            out::text(rt, b" off")?;
         }
-        Ordered::Refused(why) => show::refused(label, why),
+        Ordered::Refused(why) => show::refused(rt, label, why)?,
     }
-    out::text(b"\n");
+    out::text(rt, b"\n")
 }
 
 // `order FRONTEND`
-pub(crate) fn order(t: SatBox, line: &[u8]) -> SatBox {
-    show_order(b" ", t, words::number(line, 1));
-    t
+pub(crate) fn order(rt: &impl Print, t: SatBox, line: &[u8]) -> io::Result<SatBox> {
+    show_order(rt, b" ", t, words::number(line, 1))?;
+    Ok(t)
 }
 
-fn attempt_tick(t: SatBox, journal: &mut [u8]) {
+fn attempt_tick(rt: &impl Print, t: SatBox, journal: &mut [u8]) -> io::Result<()> {
     let r = satbox::tick(t, 0, journal);
     let outcome = r.outcome;
-    show::outcome(b", tick", outcome);
+    show::outcome(rt, b", tick", outcome)
 }
 
-fn attempt_collect(t: SatBox, journal: &[u8]) {
+fn attempt_collect(rt: &impl Print, t: SatBox, journal: &[u8]) -> io::Result<()> {
     let mut buffer = [0u8; 65536];
     lent::prepare(&mut buffer);
     let r = satbox::collect(t, journal, &mut buffer);
     let outcome = r.outcome;
-    show::outcome(b", collect", outcome);
-    lent::show(&buffer, r.count);
+    show::outcome(rt, b", collect", outcome)?;
+    lent::show(rt, &buffer, r.count)
 }
 
 // `spoil` as `set`, for a look at what the calls say to such a table, which is then thrown away, and at what they leave of the buffers.
-pub(crate) fn spoil(t: SatBox, journal: &mut [u8], line: &[u8]) -> SatBox {
+pub(crate) fn spoil(
+    rt: &impl Print,
+    t: SatBox,
+    journal: &mut [u8],
+    line: &[u8],
+) -> io::Result<SatBox> {
     let n = lent::at_most(journal.len(), t.settings.size);
     let u = fields::set(t, line);
-    asking::attempt(u, &mut journal[0..n]);
-    attempt_tick(u, &mut journal[0..n]);
-    attempt_collect(u, &journal[0..n]);
+    asking::attempt(rt, u, &mut journal[0..n])?;
+    attempt_tick(rt, u, &mut journal[0..n])?;
+    attempt_collect(rt, u, &journal[0..n])?;
     out::number(
+        rt,
         b", journal stayed ",
         lent::count_of(&journal[0..n], lent::UNWRITTEN),
-    );
-    show_order(b", order", u, 1);
-    t
+    )?;
+    show_order(rt, b", order", u, 1)?;
+    Ok(t)
 }

@@ -2,6 +2,7 @@
 ghost use Rattle.std.specs.Prelude.{◌≤◌};
 
 use crate::out;
+use std::io;
 
 // The byte that a journal is filled with when its box is made, and the one that a buffer is filled with before each call.
 pub(crate) const UNWRITTEN: u8 = 0xEE;
@@ -43,7 +44,11 @@ pub(crate) fn count_of(s: &[u8], b: u8) -> u32 {
 }
 
 // How many bytes a call put at a buffer's front, and how many of the rest are as they were.
-pub(crate) fn show(buffer: &[u8], count: u32) {
+pub(crate) fn show(rt: &impl Print, buffer: &[u8], count: u32) -> io::Result<()> {
     let n = at_most(buffer.len(), count);
-    out::numbers(b"count stayed", &[count, count_of(&buffer[n..], UNUSED)]);
+    out::numbers(
+        rt,
+        b"count stayed",
+        &[count, count_of(&buffer[n..], UNUSED)],
+    )
 }

@@ -1,47 +1,51 @@
 // A table, a call's outcome and what it wrote, in words and numbers.
 use crate::out;
+use std::io;
 use stream::{Stream, Values};
 use table::{Outcome, Refusal, SatBox, Session, Settings};
 
-pub(crate) fn refused(label: &[u8], why: Refusal) {
-    out::text(label);
-    out::number(b" refused ", table::number(why) as u32);
+pub(crate) fn refused(rt: &impl Print, label: &[u8], why: Refusal) -> io::Result<()> {
+    out::text(rt, label)?;
+    out::number(rt, b" refused ", table::number(why) as u32)
 }
 
-pub(crate) fn outcome(label: &[u8], outcome: Outcome) {
+pub(crate) fn outcome(rt: &impl Print, label: &[u8], outcome: Outcome) -> io::Result<()> {
     match outcome {
         Outcome::Done => {
-            out::text(label);
-            out::text(b" done");
+            out::text(rt, label)?;
+            out::text(rt, b" done")
         }
-        Outcome::Refused(why) => refused(label, why),
+        Outcome::Refused(why) => refused(rt, label, why),
     }
 }
 
 // The numbers that a call may move, to the end of the line.
-pub(crate) fn state(t: SatBox) {
-    out::text(b",");
+pub(crate) fn state(rt: &impl Print, t: SatBox) -> io::Result<()> {
+    out::text(rt, b",")?;
     out::numbers(
+        rt,
         b"clock sequence held open",
         &[t.clock, t.sequence as u32, t.held, finding::count_open(t)],
-    );
-    out::text(b"\n");
+    )?;
+    out::text(rt, b"\n")
 }
 
 // The records that a call wrote behind those that were held before it.
-pub(crate) fn records(journal: &[u8], before: u32, after: u32) {
+pub(crate) fn records(rt: &impl Print, journal: &[u8], before: u32, after: u32) -> io::Result<()> {
     let a = before as usize;
     let e = after as usize;
     if a <= e {
         if e <= journal.len() {
-            out::rows(&journal[a..e]);
+            out::rows(rt, &journal[a..e])?;
         }
     }
+    Ok(())
 }
 
-pub(crate) fn session(s: Session) {
-    out::hex(b" session ", s.number);
+pub(crate) fn session(rt: &impl Print, s: Session) -> io::Result<()> {
+    out::hex(rt, b" session ", s.number)?;
     out::numbers(
+        rt,
         b"stream owner playing last port",
         &[
             s.stream as u32,
@@ -50,90 +54,95 @@ pub(crate) fn session(s: Session) {
             s.last,
             s.port,
         ],
-    );
-    out::address(b" address ", s.address);
+    )?;
+    out::address(rt, b" address ", s.address)
 }
 
-fn values(v: Values) {
+fn values(rt: &impl Print, v: Values) -> io::Result<()> {
     out::numbers(
+        rt,
         b"src freq pol msys mtype plts ro sr fec",
         &[
             v.src, v.freq, v.pol, v.msys, v.mtype, v.plts, v.ro, v.sr, v.fec,
         ],
-    );
+    )
 }
 
 // The first PIDs of an array.
-fn pids(m: Stream) {
+fn pids(rt: &impl Print, m: Stream) -> io::Result<()> {
     let list = m.pids;
     let count = m.count as usize;
     let mut i = 0;
     while i < 32 {
         if i < count {
-            out::number(b" ", list[i] as u32);
+            out::number(rt, b" ", list[i] as u32)?;
         }
         i += 1;
     }
+    Ok(())
 }
 
-pub(crate) fn stream(m: Stream) {
+pub(crate) fn stream(rt: &impl Print, m: Stream) -> io::Result<()> {
     let v = m.values;
-    out::number(b" frontend ", m.frontend as u32);
-    values(v);
-    out::numbers(b"all pids", &[m.all as u32, m.count as u32]);
-    out::text(b":");
-    pids(m);
+    out::number(rt, b" frontend ", m.frontend as u32)?;
+    values(rt, v)?;
+    out::numbers(rt, b"all pids", &[m.all as u32, m.count as u32])?;
+    out::text(rt, b":")?;
+    pids(rt, m)
 }
 
 // A line for each open session.
-fn sessions(t: SatBox) {
+fn sessions(rt: &impl Print, t: SatBox) -> io::Result<()> {
     let mut i = 0;
     while i < SatBox::SESSIONS {
         let s = t.sessions[i];
         if s.number != 0 {
-            out::number(b"  place ", i as u32);
-            session(s);
-            out::text(b"\n");
+            out::number(rt, b"  place ", i as u32)?;
+            session(rt, s)?;
+            out::text(rt, b"\n")?;
         }
         i += 1;
     }
+    Ok(())
 }
 
 // A line for each live stream, with its ID.
-fn streams(t: SatBox) {
+fn streams(rt: &impl Print, t: SatBox) -> io::Result<()> {
     let mut i = 0;
     while i < SatBox::STREAMS {
         let m = t.streams[i];
         i += 1;
         if m.frontend != 0 {
-            out::number(b"  stream ", i as u32);
-            stream(m);
-            out::text(b"\n");
+            out::number(rt, b"  stream ", i as u32)?;
+            stream(rt, m)?;
+            out::text(rt, b"\n")?;
         }
     }
+    Ok(())
 }
 
 // The set of each frontend, by its place.
-fn reach(settings: Settings) {
+fn reach(rt: &impl Print, settings: Settings) -> io::Result<()> {
     let reach = settings.reach;
-    out::text(b" reach");
+    out::text(rt, b" reach")?;
     let mut i = 0;
     while i < 8 {
-        out::number(b" ", reach[i] as u32);
+        out::number(rt, b" ", reach[i] as u32)?;
         i += 1;
     }
+    Ok(())
 }
 
-pub(crate) fn table(t: SatBox) {
-    out::number(b"  frontends ", t.settings.frontends as u32);
-    out::number(b" size ", t.settings.size);
-    reach(t.settings);
+pub(crate) fn table(rt: &impl Print, t: SatBox) -> io::Result<()> {
+    out::number(rt, b"  frontends ", t.settings.frontends as u32)?;
+    out::number(rt, b" size ", t.settings.size)?;
+    reach(rt, t.settings)?;
     if formed::is_well(formed::standing_of(t)) {
-        out::text(b", well formed");
+        out::text(rt, b", well formed")?;
     } else {
-        out::text(b", not well formed");
+        out::text(rt, b", not well formed")?;
     }
-    state(t);
-    sessions(t);
-    streams(t);
+    state(rt, t)?;
+    sessions(rt, t)?;
+    streams(rt, t)
 }

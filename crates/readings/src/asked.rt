@@ -3,58 +3,66 @@ use crate::out;
 use aim::Method;
 use reader::{Request, Session, Transport};
 use scan::Span;
+use std::io;
 
-fn method(m: Method) {
+fn method(rt: &impl Print, m: Method) -> io::Result<()> {
     match m {
-        Method::Options => out::text(b"options"),
-        Method::Setup => out::text(b"setup"),
-        Method::Play => out::text(b"play"),
-        Method::Teardown => out::text(b"teardown"),
-        Method::Other => out::text(b"other"),
+        Method::Options => out::text(rt, b"options"),
+        Method::Setup => out::text(rt, b"setup"),
+        Method::Play => out::text(rt, b"play"),
+        Method::Teardown => out::text(rt, b"teardown"),
+        Method::Other => out::text(rt, b"other"),
     }
 }
 
-fn session(s: Session) {
-    out::text(b" session ");
+fn session(rt: &impl Print, s: Session) -> io::Result<()> {
+    out::text(rt, b" session ")?;
     match s {
-        Session::Absent => out::text(b"-"),
-        Session::Malformed => out::text(b"bad"),
-        Session::Named(n) => out::hex(n),
+        Session::Absent => out::text(rt, b"-"),
+        Session::Malformed => out::text(rt, b"bad"),
+        Session::Named(n) => out::hex(rt, n),
     }
 }
 
-fn transport(t: Transport) {
-    out::text(b" port ");
+fn transport(rt: &impl Print, t: Transport) -> io::Result<()> {
+    out::text(rt, b" port ")?;
     match t {
-        Transport::Other => out::text(b"-"),
-        Transport::Port(p) => out::number(p),
+        Transport::Other => out::text(rt, b"-"),
+        Transport::Port(p) => out::number(rt, p),
     }
 }
 
 // The attribute at a place, where it is given: its code, and of a list of PIDs its text.
-fn attribute(query: &[u8], i: u32, code: u32, place: Span) {
+fn attribute(rt: &impl Print, query: &[u8], i: u32, code: u32, place: Span) -> io::Result<()> {
     if code == 0 {
-        return;
+        return Ok(());
     }
-    out::text(b" ");
-    out::number(i);
-    out::text(b"=");
-    out::number(code);
+    out::text(rt, b" ")?;
+    out::number(rt, i)?;
+    out::text(rt, b"=")?;
+    out::number(rt, code)?;
     if 9 < i {
-        out::part(query, place);
+        out::part(rt, query, place)?;
     }
+    Ok(())
 }
 
-fn attributes(query: &[u8], codes: [u32; 13], spans: [Span; 13]) {
+fn attributes(
+    rt: &impl Print,
+    query: &[u8],
+    codes: [u32; 13],
+    spans: [Span; 13],
+) -> io::Result<()> {
     let mut i = 0;
     while i < 13 {
         let place = spans[i];
-        attribute(query, i as u32, codes[i], place);
+        attribute(rt, query, i as u32, codes[i], place)?;
         i += 1;
     }
+    Ok(())
 }
 
-fn query(s: &[u8], r: Request) {
+fn query(rt: &impl Print, s: &[u8], r: Request) -> io::Result<()> {
     let codes = r.codes;
     let spans = r.spans;
     let place = r.query;
@@ -62,56 +70,57 @@ fn query(s: &[u8], r: Request) {
     let e = place.end;
     if a <= e {
         if e <= s.len() {
-            attributes(&s[a..e], codes, spans);
+            attributes(rt, &s[a..e], codes, spans)?;
         }
     }
+    Ok(())
 }
 
-fn aim(s: &[u8], r: Request) {
+fn aim(rt: &impl Print, s: &[u8], r: Request) -> io::Result<()> {
     let m = r.method;
     let host = r.host;
-    out::text(b" method ");
-    method(m);
-    out::text(b" stream ");
-    out::number(r.stream);
-    out::text(b" host ");
-    out::part(s, host);
+    out::text(rt, b" method ")?;
+    method(rt, m)?;
+    out::text(rt, b" stream ")?;
+    out::number(rt, r.stream)?;
+    out::text(rt, b" host ")?;
+    out::part(rt, s, host)
 }
 
-fn passed(s: &[u8], r: Request) {
+fn passed(rt: &impl Print, s: &[u8], r: Request) -> io::Result<()> {
     let named = r.session;
     let sent = r.transport;
-    aim(s, r);
-    session(named);
-    transport(sent);
-    query(s, r);
+    aim(rt, s, r)?;
+    session(rt, named)?;
+    transport(rt, sent)?;
+    query(rt, s, r)
 }
 
-fn verdict(s: &[u8], r: Request) {
+fn verdict(rt: &impl Print, s: &[u8], r: Request) -> io::Result<()> {
     let refusal = r.refusal;
     let cseq = r.cseq;
-    out::text(b" step ");
-    out::number(refusals::step(refusal) as u32);
-    out::text(b" status ");
-    out::number(refusals::status(refusal) as u32);
-    out::text(b" cseq ");
-    out::digits(s, cseq);
+    out::text(rt, b" step ")?;
+    out::number(rt, refusals::step(refusal) as u32)?;
+    out::text(rt, b" status ")?;
+    out::number(rt, refusals::status(refusal) as u32)?;
+    out::text(rt, b" cseq ")?;
+    out::digits(rt, s, cseq)
 }
 
-fn required(s: &[u8], r: Request) {
+fn required(rt: &impl Print, s: &[u8], r: Request) -> io::Result<()> {
     let place = r.require;
-    out::text(b" require ");
-    out::part(s, place);
+    out::text(rt, b" require ")?;
+    out::part(rt, s, place)
 }
 
 // What the request `s` asks of a box with two frontends.
-pub(crate) fn request(s: &[u8]) {
+pub(crate) fn request(rt: &impl Print, s: &[u8]) -> io::Result<()> {
     let r = reader::read(s, 2);
     let refusal = r.refusal;
-    verdict(s, r);
+    verdict(rt, s, r)?;
     match refusals::step(refusal) {
-        0 => passed(s, r),
-        5 => required(s, r),
-        _ => {}
+        0 => passed(rt, s, r),
+        5 => required(rt, s, r),
+        _ => Ok(()),
     }
 }

@@ -1,11 +1,13 @@
 // Document 01's request program: makes a box, reads one request from standard input and writes the box's answer to standard output.
 #![tactic(auto)]
+
 mod input;
 
 ghost use Rattle.std.specs.Prelude.{◌≡◌, ◌++◌, ◌≤◌, length, drop};
-ghost use Rattle.io.specs.Counts.{IsPrefixLen};
+ghost use Rattle.request.specs.Counts.{IsPrefixLen};
 ghost use Rattle.request.specs.Program.{printed};
 
+use std::io;
 use table::{SatBox, Settings};
 
 const SETTINGS: Settings = Settings {
@@ -31,10 +33,10 @@ fn answer(request: &[u8], buffer: &mut [u8]) -> usize
     replied.count as usize
 }
 
-fn main() {
+fn main(rt: HostRuntime) -> io::Result<()> {
     let mut request = [0u8; 4096];
     let mut buffer = [0u8; 4096];
-    let n = input::read_all(&mut request);
+    let n = input::read_all(&mut rt.stdin(), &mut request)?;
     let count = answer(&request[..n], &mut buffer);
-    io::write_all(1, &buffer[..count]);
+    rt.write_all(&buffer[..count])
 }

@@ -1,92 +1,93 @@
 // Text and numbers put into buffers that are long enough, just long enough and too short.
 use crate::out;
+use std::io;
 
-fn show(buf: &[u8], next: usize) {
-    out::text(b"[");
-    out::text(buf);
-    out::text(b"] ");
+fn show(rt: &impl Print, buf: &[u8], next: usize) -> io::Result<()> {
+    out::text(rt, b"[")?;
+    out::text(rt, buf)?;
+    out::text(rt, b"] ")?;
     if next < 100 {
-        out::number(next as u32);
+        out::number(rt, next as u32)?;
     }
-    out::text(b"\n");
+    out::text(rt, b"\n")
 }
 
-fn put(at: usize, t: &[u8]) {
+fn put(rt: &impl Print, at: usize, t: &[u8]) -> io::Result<()> {
     let mut buf = [b'.'; 8];
     let next = writing::put(&mut buf, at, t);
-    show(&buf, next);
+    show(rt, &buf, next)
 }
 
-fn put_text(at: usize, t: &[u8]) {
+fn put_text(rt: &impl Print, at: usize, t: &[u8]) -> io::Result<()> {
     let mut buf = [b'.'; 8];
     let next = writing::put_text(&mut buf, at, t);
-    show(&buf, next);
+    show(rt, &buf, next)
 }
 
-fn decimal(at: usize, v: u32) {
+fn decimal(rt: &impl Print, at: usize, v: u32) -> io::Result<()> {
     let mut buf = [b'.'; 12];
     let next = writing::put_decimal(&mut buf, at, v);
-    show(&buf, next);
+    show(rt, &buf, next)
 }
 
-fn hex(at: usize, v: u32) {
+fn hex(rt: &impl Print, at: usize, v: u32) -> io::Result<()> {
     let mut buf = [b'.'; 10];
     let next = writing::put_hex(&mut buf, at, v);
-    show(&buf, next);
+    show(rt, &buf, next)
 }
 
-fn dotted(at: usize, address: u32) {
+fn dotted(rt: &impl Print, at: usize, address: u32) -> io::Result<()> {
     let mut buf = [b'.'; 16];
     let next = writing::put_dotted(&mut buf, at, address);
-    show(&buf, next);
+    show(rt, &buf, next)
 }
 
-fn texts() {
-    put(0, b"");
-    put(0, b"text");
-    put(4, b"text");
-    put(5, b"text");
-    put(8, b"");
-    put(8, b"text");
-    put(9, b"");
-    put(18446744073709551615, b"text");
+fn texts(rt: &impl Print) -> io::Result<()> {
+    put(rt, 0, b"")?;
+    put(rt, 0, b"text")?;
+    put(rt, 4, b"text")?;
+    put(rt, 5, b"text")?;
+    put(rt, 8, b"")?;
+    put(rt, 8, b"text")?;
+    put(rt, 9, b"")?;
+    put(rt, 18446744073709551615, b"text")
 }
 
-fn own_texts() {
-    put_text(0, b"");
-    put_text(4, b"text");
-    put_text(5, b"text");
-    put_text(8, b"text");
-    put_text(9, b"");
-    put_text(18446744073709551615, b"text");
-    put_text(1, b"seventeen bytes..");
-    put_text(1, b"eighteen bytes ...");
+fn own_texts(rt: &impl Print) -> io::Result<()> {
+    put_text(rt, 0, b"")?;
+    put_text(rt, 4, b"text")?;
+    put_text(rt, 5, b"text")?;
+    put_text(rt, 8, b"text")?;
+    put_text(rt, 9, b"")?;
+    put_text(rt, 18446744073709551615, b"text")?;
+    put_text(rt, 1, b"seventeen bytes..")?;
+    put_text(rt, 1, b"eighteen bytes ...")
 }
 
-fn decimals() {
-    decimal(1, 0);
-    decimal(1, 9);
-    decimal(1, 10);
-    decimal(1, 65535);
-    decimal(2, 4294967295);
-    decimal(3, 4294967295);
-    decimal(12, 7);
-    decimal(18446744073709551615, 7);
+fn decimals(rt: &impl Print) -> io::Result<()> {
+    decimal(rt, 1, 0)?;
+    decimal(rt, 1, 9)?;
+    decimal(rt, 1, 10)?;
+    decimal(rt, 1, 65535)?;
+    decimal(rt, 2, 4294967295)?;
+    decimal(rt, 3, 4294967295)?;
+    decimal(rt, 12, 7)?;
+    decimal(rt, 18446744073709551615, 7)
 }
 
-fn others() {
-    hex(1, 0);
-    hex(2, 4294967295);
-    hex(3, 2882400001);
-    dotted(0, 0);
-    dotted(1, 4294967295);
-    dotted(2, 4294967295);
-    dotted(0, 3232281127);
+fn others(rt: &impl Print) -> io::Result<()> {
+    hex(rt, 1, 0)?;
+    hex(rt, 2, 4294967295)?;
+    hex(rt, 3, 2882400001)?;
+    dotted(rt, 0, 0)?;
+    dotted(rt, 1, 4294967295)?;
+    dotted(rt, 2, 4294967295)?;
+    dotted(rt, 0, 3232281127)
 }
 
-pub(crate) fn run() {
-    texts();
-    own_texts();
-    decimals();
-    others();
+pub(crate) fn run(rt: &impl Print) -> io::Result<()> {
+    texts(rt)?;
+    own_texts(rt)?;
+    decimals(rt)?;
+    others(rt)
 }

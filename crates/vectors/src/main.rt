@@ -1,13 +1,17 @@
 // Runs vectors through `scan`, `digits` and `journal` and writes what they give; the file `stdout` says what that must be. Each line of
 // standard input is a text that goes through every reading; the buffers and the records are made here.
 #![tactic(auto)]
+
 mod buffers;
+mod input;
 mod out;
 mod records;
 mod texts;
 
-fn main() {
-    texts::run();
-    buffers::run();
-    records::run();
+use std::io;
+
+fn main(rt: HostRuntime) -> io::Result<()> {
+    texts::run(&mut rt.stdin(), &rt)?;
+    buffers::run(&rt)?;
+    records::run(&rt)
 }

@@ -1,31 +1,33 @@
 // What the vectors write to standard output.
 use digits::Read;
+use std::io;
 
-pub(crate) fn text(s: &[u8]) {
-    io::write_all(1, s);
+pub(crate) fn text(rt: &impl Print, s: &[u8]) -> io::Result<()> {
+    rt.write_all(s)
 }
 
-pub(crate) fn number(v: u32) {
+pub(crate) fn number(rt: &impl Print, v: u32) -> io::Result<()> {
     let mut digits = [0u8; 10];
     let n = writing::put_decimal(&mut digits, 0, v);
     if n <= 10 {
-        text(&digits[0..n]);
+        text(rt, &digits[0..n])?;
     }
+    Ok(())
 }
 
-pub(crate) fn read(label: &[u8], r: Read) {
-    text(label);
+pub(crate) fn read(rt: &impl Print, label: &[u8], r: Read) -> io::Result<()> {
+    text(rt, label)?;
     match r {
-        Read::Value(v) => number(v),
-        Read::Nothing => text(b"-"),
+        Read::Value(v) => number(rt, v),
+        Read::Nothing => text(rt, b"-"),
     }
 }
 
-pub(crate) fn test(label: &[u8], is: bool) {
-    text(label);
+pub(crate) fn test(rt: &impl Print, label: &[u8], is: bool) -> io::Result<()> {
+    text(rt, label)?;
     if is {
-        text(b"yes");
+        text(rt, b"yes")
     } else {
-        text(b"no");
+        text(rt, b"no")
     }
 }

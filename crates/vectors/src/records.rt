@@ -1,64 +1,64 @@
 // Records written and read: document 01's example, one flawed byte at each of its places, and every limit of every field.
 use crate::out;
 use journal::{Outcome, Reading, Record};
+use std::io;
 
-fn fields(r: Record) {
-    out::text(b"kind ");
-    out::number(r.kind as u32);
-    out::text(b" cause ");
-    out::number(r.cause as u32);
-    out::text(b" clock ");
-    out::number(r.clock);
-    out::text(b" session ");
-    out::number(r.session);
+fn fields(rt: &impl Print, r: Record) -> io::Result<()> {
+    out::text(rt, b"kind ")?;
+    out::number(rt, r.kind as u32)?;
+    out::text(rt, b" cause ")?;
+    out::number(rt, r.cause as u32)?;
+    out::text(rt, b" clock ")?;
+    out::number(rt, r.clock)?;
+    out::text(rt, b" session ")?;
+    out::number(rt, r.session)
 }
 
-fn rest(r: Record) {
-    out::text(b" stream ");
-    out::number(r.stream as u32);
-    out::text(b" frontend ");
-    out::number(r.frontend as u32);
-    out::text(b" sequence ");
-    out::number(r.sequence as u32);
-    out::text(b"\n");
+fn rest(rt: &impl Print, r: Record) -> io::Result<()> {
+    out::text(rt, b" stream ")?;
+    out::number(rt, r.stream as u32)?;
+    out::text(rt, b" frontend ")?;
+    out::number(rt, r.frontend as u32)?;
+    out::text(rt, b" sequence ")?;
+    out::number(rt, r.sequence as u32)?;
+    out::text(rt, b"\n")
 }
 
-fn reading(bytes: &[u8], place: usize) {
+fn reading(rt: &impl Print, bytes: &[u8], place: usize) -> io::Result<()> {
     match journal::read(bytes, place) {
         Reading::Sound(r) => {
-            fields(r);
-            rest(r);
+            fields(rt, r)?;
+            rest(rt, r)
         }
         Reading::Refused(why) => {
-            out::text(b"refused ");
-            out::number(journal::number(why) as u32);
-            out::text(b"\n");
+            out::text(rt, b"refused ")?;
+            out::number(rt, journal::number(why) as u32)?;
+            out::text(rt, b"\n")
         }
     }
 }
 
-fn shown(bytes: [u8; 16]) {
+fn shown(rt: &impl Print, bytes: [u8; 16]) -> io::Result<()> {
     let mut i = 0;
     while i < 16 {
-        out::number(bytes[i] as u32);
-        out::text(b" ");
+        out::number(rt, bytes[i] as u32)?;
+        out::text(rt, b" ")?;
         i += 1;
     }
+    Ok(())
 }
 
-fn writing(r: Record) {
+fn writing(rt: &impl Print, r: Record) -> io::Result<()> {
     let w = journal::write(r);
     let outcome = w.outcome;
     let bytes = w.bytes;
-    shown(bytes);
+    shown(rt, bytes)?;
     match outcome {
-        Outcome::Done => {
-            reading(&bytes, 0);
-        }
+        Outcome::Done => { reading(rt, &bytes, 0) }
         Outcome::Unwritten(why) => {
-            out::text(b"refused ");
-            out::number(journal::number(why) as u32);
-            out::text(b"\n");
+            out::text(rt, b"refused ")?;
+            out::number(rt, journal::number(why) as u32)?;
+            out::text(rt, b"\n")
         }
     }
 }
@@ -80,72 +80,77 @@ fn example() -> Record {
     record(1, 0, 1, 1, 1)
 }
 
-fn flaws() {
+fn flaws(rt: &impl Print) -> io::Result<()> {
     let good = journal::write(example()).bytes;
     let mut i = 0;
     while i < 16 {
         let mut bytes = good;
         bytes[i] = std::num::wrapping_add_u8(good[i], 1);
-        reading(&bytes, 0);
+        reading(rt, &bytes, 0)?;
         bytes[i] = std::num::wrapping_add_u8(good[i], 255);
-        reading(&bytes, 0);
+        reading(rt, &bytes, 0)?;
         i += 1;
     }
+    Ok(())
 }
 
 // Kinds and causes from 0 to 4, each with each.
-fn kinds() {
+fn kinds(rt: &impl Print) -> io::Result<()> {
     let mut i = 0;
     while i < 25 {
-        writing(record(i / 5, i % 5, 1, 1, 1));
+        writing(rt, record(i / 5, i % 5, 1, 1, 1))?;
         i += 1;
     }
+    Ok(())
 }
 
-fn limits() {
-    writing(record(3, 3, 0, 1, 1));
-    writing(record(3, 3, 4294967295, 8, 8));
-    writing(record(3, 3, 1, 0, 1));
-    writing(record(3, 3, 1, 9, 1));
-    writing(record(3, 3, 1, 1, 0));
-    writing(record(3, 3, 1, 1, 9));
-    writing(Record {
-        kind: 2,
-        cause: 0,
-        clock: 4294967295,
-        session: 305419896,
-        stream: 2,
-        frontend: 3,
-        sequence: 65535,
-    });
+fn limits(rt: &impl Print) -> io::Result<()> {
+    writing(rt, record(3, 3, 0, 1, 1))?;
+    writing(rt, record(3, 3, 4294967295, 8, 8))?;
+    writing(rt, record(3, 3, 1, 0, 1))?;
+    writing(rt, record(3, 3, 1, 9, 1))?;
+    writing(rt, record(3, 3, 1, 1, 0))?;
+    writing(rt, record(3, 3, 1, 1, 9))?;
+    writing(
+        rt,
+        Record {
+            kind: 2,
+            cause: 0,
+            clock: 4294967295,
+            session: 305419896,
+            stream: 2,
+            frontend: 3,
+            sequence: 65535,
+        },
+    )
 }
 
-fn places() {
+fn places(rt: &impl Print) -> io::Result<()> {
     let bytes = [0u8; 48];
-    reading(&bytes[0..0], 0);
-    reading(&bytes[0..15], 0);
-    reading(&bytes[0..17], 0);
-    reading(&bytes[0..16], 0);
-    reading(&bytes[0..16], 1);
-    reading(&bytes[0..48], 2);
-    reading(&bytes[0..48], 3);
-    reading(&bytes[0..48], 18446744073709551615);
+    reading(rt, &bytes[0..0], 0)?;
+    reading(rt, &bytes[0..15], 0)?;
+    reading(rt, &bytes[0..17], 0)?;
+    reading(rt, &bytes[0..16], 0)?;
+    reading(rt, &bytes[0..16], 1)?;
+    reading(rt, &bytes[0..48], 2)?;
+    reading(rt, &bytes[0..48], 3)?;
+    reading(rt, &bytes[0..48], 18446744073709551615)
 }
 
-fn sequences() {
-    out::number(journal::next_sequence(0) as u32);
-    out::text(b" ");
-    out::number(journal::next_sequence(65534) as u32);
-    out::text(b" ");
-    out::number(journal::next_sequence(65535) as u32);
-    out::text(b"\n");
+fn sequences(rt: &impl Print) -> io::Result<()> {
+    out::number(rt, journal::next_sequence(0) as u32)?;
+    out::text(rt, b" ")?;
+    out::number(rt, journal::next_sequence(65534) as u32)?;
+    out::text(rt, b" ")?;
+    out::number(rt, journal::next_sequence(65535) as u32)?;
+    out::text(rt, b"\n")
 }
 
-pub(crate) fn run() {
-    writing(example());
-    flaws();
-    kinds();
-    limits();
-    places();
-    sequences();
+pub(crate) fn run(rt: &impl Print) -> io::Result<()> {
+    writing(rt, example())?;
+    flaws(rt)?;
+    kinds(rt)?;
+    limits(rt)?;
+    places(rt)?;
+    sequences(rt)
 }

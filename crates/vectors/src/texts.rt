@@ -1,51 +1,54 @@
 // Every line of standard input through every reading of a text.
-use crate::out;
+use crate::{input, out};
 use digits::Zeros;
 use scan::{Case, Class};
+use std::io::{self, Read};
 
-fn trimmed(s: &[u8]) {
+fn trimmed(rt: &impl Print, s: &[u8]) -> io::Result<()> {
     let t = scan::trimmed(s);
     let a = t.start;
     let e = t.end;
-    out::text(b", trimmed [");
-    out::text(&s[a..e]);
-    out::text(b"]");
+    out::text(rt, b", trimmed [")?;
+    out::text(rt, &s[a..e])?;
+    out::text(rt, b"]")
 }
 
-fn numbers(s: &[u8]) {
-    out::read(b", plain ", digits::number(s, Zeros::Allowed, 5, 65535));
-    out::read(b", bare ", digits::number(s, Zeros::Refused, 5, 65535));
+fn numbers(rt: &impl Print, s: &[u8]) -> io::Result<()> {
+    out::read(rt, b", plain ", digits::number(s, Zeros::Allowed, 5, 65535))?;
+    out::read(rt, b", bare ", digits::number(s, Zeros::Refused, 5, 65535))?;
     out::read(
+        rt,
         b", wide ",
         digits::number(s, Zeros::Allowed, 10, 4294967295),
-    );
-    out::read(b", hex ", digits::hex_number(s));
+    )?;
+    out::read(rt, b", hex ", digits::hex_number(s))
 }
 
-fn classes(s: &[u8]) {
-    out::test(b", name ", scan::all_in(s, Class::Name));
-    out::test(b", text ", scan::all_in(s, Class::Text));
-    out::test(b", CSeq ", scan::are_alike(s, b"CSeq", Case::Ignored));
-    out::test(b" ", scan::are_alike(s, b"CSeq", Case::Counts));
+fn classes(rt: &impl Print, s: &[u8]) -> io::Result<()> {
+    out::test(rt, b", name ", scan::all_in(s, Class::Name))?;
+    out::test(rt, b", text ", scan::all_in(s, Class::Text))?;
+    out::test(rt, b", CSeq ", scan::are_alike(s, b"CSeq", Case::Ignored))?;
+    out::test(rt, b" ", scan::are_alike(s, b"CSeq", Case::Counts))
 }
 
-fn line(s: &[u8]) {
-    out::text(b"[");
-    out::text(s);
-    out::text(b"]");
-    trimmed(s);
-    numbers(s);
-    classes(s);
-    out::text(b"\n");
+fn line(rt: &impl Print, s: &[u8]) -> io::Result<()> {
+    out::text(rt, b"[")?;
+    out::text(rt, s)?;
+    out::text(rt, b"]")?;
+    trimmed(rt, s)?;
+    numbers(rt, s)?;
+    classes(rt, s)?;
+    out::text(rt, b"\n")
 }
 
-pub(crate) fn run() {
+pub(crate) fn run(from: &mut impl Read, rt: &impl Print) -> io::Result<()> {
     let mut input = [0u8; 4096];
-    let n = io::read_full(0, &mut input);
+    let n = input::read_full(from, &mut input)?;
     let mut p = 0;
     while p < n {
         let s = script::line(&input[0..n], p);
-        line(s);
+        line(rt, s)?;
         p += s.len() + 1;
     }
+    Ok(())
 }
