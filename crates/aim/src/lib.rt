@@ -1,5 +1,6 @@
 // What a request's URI asks: steps 7 to 10. Its bytes are looked at as `target` and `query` say, and no byte is copied.
 #![tactic(auto)]
+
 mod query;
 
 ghost use Rattle.std.specs.Prelude.{◌≡◌, true, false, length};

@@ -1,6 +1,7 @@
 // Numbers out of text: decimal and hexadecimal, read within limits, and where their digits stand. Every function has an answer for all
 // bytes and numbers, looks at each byte at most once and stops at the first that settles the answer.
 #![tactic(auto)]
+
 ghost use Rattle.std.specs.Prelude.{◌≡◌, ◌+◌, ◌*◌, ◌<◌};
 ghost use Rattle.digits.specs.Reading.{digit_of, read_in, has_leading_zero, read_number, at_least, is_value, read_hex8};
 ghost use Rattle.digits.specs.Standing.{Stands};

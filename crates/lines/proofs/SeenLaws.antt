@@ -9,8 +9,8 @@ use native.Mathlib.Omega.{arith}
 use lib.Dec.{eqb}
 use lib.ListN.{length, drop, get_or, set, replicate, length-append, length-set, drop_of_length-le, take}
 use lib.Seq.{get_or-set_same, get_or-set_other}
-use borrow.Author.Tests.{le-leb, lt-leb, eqb-true, eq-eqb, ne_eqb}
-use Rattle.scan.specs.Lists.{all, part, first}
+use borrow.Author.Tests.{le-leb, lt-leb, eq-eqb, ne_eqb}
+use Rattle.scan.specs.Lists.{part, first}
 use Rattle.scan.specs.Found.{Holds, FirstFrom, in_class, is_word}
 use Rattle.scan.specs.Text.{is_empty, cut, place_among}
 use Rattle.scan.specs.declared.Case.TheVariants.{Ignored}

@@ -2,6 +2,7 @@
 // looks at each byte once for the layout (twice in the sixteen bytes where a line ends), at a header's name once more for each known name
 // that is as long, and once for its form where it is none of them, and at the outer spaces of a known header's value once more.
 #![tactic(auto)]
+
 ghost use Rattle.std.specs.Prelude.{◌≡◌, ◌+◌, ◌≤◌, length, true};
 ghost use Rattle.lines.specs.Headers.{is_header, header_of};
 ghost use Rattle.lines.specs.Laid.{no_header, is_named, KnownIs, colon_of, HeaderIs, seen_again, is_pair_at, broken_lines, HeadersAre, LinesAre};

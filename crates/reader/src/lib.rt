@@ -2,6 +2,7 @@
 // the lines (`lines`) looks at each byte once, and finds every known header; after it only the request line, the URI and the values of
 // CSeq, Session and Transport are looked at again, as `target`, `aim` and `digits` say. No byte is copied.
 #![tactic(auto)]
+
 mod fields;
 
 ghost use Rattle.std.specs.Prelude.{◌≡◌, ◌≤◌, length};

@@ -1,5 +1,6 @@
 // Why a request is refused, in document 01's order: each case with its step and its status.
 #![tactic(auto)]
+
 ghost use Rattle.std.specs.Prelude.{◌≡◌};
 ghost use Rattle.refusals.specs.Refusals.{reading_rule, is_read};
 

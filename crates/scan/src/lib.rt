@@ -1,6 +1,7 @@
 // Looking at bytes: classes of bytes, the first byte of a class, two texts compared, outer spaces removed. Every function has an
 // answer for all bytes and all places. A call looks at a byte at most twice, and copies none.
 #![tactic(auto)]
+
 ghost use Rattle.std.specs.Prelude.{◌≡◌, eqb};
 ghost use Rattle.scan.specs.Lists.{all, is_digit, is_capital, is_name, is_text};
 ghost use Rattle.scan.specs.Found.{FirstOf, FirstFrom, Trimmed, in_class, is_small, other_case};

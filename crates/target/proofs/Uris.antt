@@ -25,7 +25,7 @@ use Rattle.digits.specs.Reading.{digit_of, are_digits, spelled, is_value, at_lea
 use Rattle.digits.specs.declared.Zeros.TheVariants.{Refused}
 use Rattle.digits.specs.declared.Read.{Read}
 use Rattle.digits.specs.declared.Read.TheVariants.{Value, Nothing}
-use Rattle.target.specs.Uri.{starts_with, rest_of, is_port, stream_of_path, stream_named, host_of, has_query, query_of, is_uri}
+use Rattle.target.specs.Uri.{starts_with, rest_of, is_port, stream_of_path, stream_named, host_of, has_query, is_uri}
 use Rattle.target.specs.Steps.{question, slash, port_colon, is_host, UriIs, no_uri, is_port_number, host_end}
 use Rattle.target.specs.declared.Uri.{Uri}
 

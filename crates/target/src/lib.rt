@@ -2,6 +2,7 @@
 // answer for all bytes. A request line's bytes are looked at once each (those of the sixteen in which the second space stands twice); a
 // URI's at most twice each (those of its host for `/` and by their class), and those of its query never. No byte is copied.
 #![tactic(auto)]
+
 ghost use Rattle.std.specs.Prelude.{◌≡◌};
 ghost use Rattle.target.specs.Steps.{PartsAre, no_parts, no_uri, is_port_number, host_end, UriIs};
 ghost use Rattle.target.specs.Uri.{starts_with, stream_of_path};

@@ -2,6 +2,7 @@
 // byte of a frequency or of a list of PIDs once more, for the dot or the commas; a byte of a name or a word at most once for each word
 // of the table that is as long. The text of pids is looked at as a word before it is read as a list. No byte is copied.
 #![tactic(auto)]
+
 ghost use Rattle.std.specs.Prelude.{◌≡◌, ◌<◌, length};
 ghost use Rattle.scan.specs.Found.{FirstOf};
 ghost use Rattle.scan.specs.Text.{is, text};

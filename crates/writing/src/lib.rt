@@ -1,6 +1,7 @@
 // Text and numbers put into a lent buffer: decimal, hexadecimal and dotted addresses. Every function has an answer for all buffers, places and
 // numbers, and writes each byte once.
 #![tactic(auto)]
+
 ghost use Rattle.std.specs.Prelude.{◌≡◌, ◌+◌, ◌-◌, ◌≤◌, ◌<◌, min, length, set};
 ghost use Rattle.writing.specs.Writing.{shown, numeral, width, decimal, hex8, dotted, written};
 ghost use Rattle.writing.specs.Wrote.{Wrote};
