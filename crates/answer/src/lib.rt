@@ -1,6 +1,7 @@
 // An answer's text, written straight into a lent buffer, line by line: the status line, CSeq, what its kind adds, and the empty line. Every
 // byte is written once, and nothing is copied but CSeq's digits, a host and a Require value, from where they stand in the request.
 #![tactic(auto)]
+
 mod puts;
 mod status;
 

@@ -1,5 +1,6 @@
 // What is free among the places, the stream IDs, the frontends and the session numbers of a table.
 #![tactic(auto)]
+
 ghost use Rattle.std.specs.Prelude.{◌≡◌, ℕ, ◌≤◌, ◌∷◌, map, if◌then◌else◌, slice_index};
 ghost use Rattle.scan.specs.Found.{FirstOf};
 ghost use Rattle.stream.specs.declared.Stream.{Stream};

@@ -2,6 +2,7 @@
 // it walks over. A leaf looks at one place, or at numbers. The walk over the sessions keeps the oldest last time beside, so that a sweep need
 // not look for sessions that have expired.
 #![tactic(auto)]
+
 ghost use Rattle.std.specs.Prelude.{◌≡◌, true, false, not, cond, ◌&&◌, ◌||◌, List, ◌∷◌, map, ℕ, ◌+◌, ◌*◌, ◌%◌, ◌≤◌, ◌<◌, min, eqb, leb, length, get_or, take, drop, replicate};
 ghost use Rattle.scan.specs.Lists.{is_between, all};
 ghost use Rattle.stream.specs.Values.{is_zero};

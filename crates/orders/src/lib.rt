@@ -1,5 +1,6 @@
 // What a frontend is to be set to: off, or the values and PIDs of the stream that holds it.
 #![tactic(auto)]
+
 ghost use Rattle.std.specs.Prelude.{◌≡◌, cond, eqb};
 ghost use Rattle.scan.specs.Lists.{is_between};
 ghost use Rattle.scan.specs.Found.{FirstOf};

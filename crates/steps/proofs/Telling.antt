@@ -20,7 +20,7 @@ use Rattle.digits.specs.declared.Read.{Read}
 use Rattle.digits.specs.declared.Read.TheVariants.{Value, Nothing}
 use Rattle.digits.proofs.Limits.{Is-read_law, number_between}
 use Rattle.lines.specs.Lines.{is_laid_out}
-use Rattle.target.specs.Uri.{starts_with, has_query, query_of}
+use Rattle.target.specs.Uri.{starts_with, query_of}
 use Rattle.tuning.specs.Values.{value_of}
 use Rattle.stream.specs.Arrays.{kept, is_fit, are_fit, is_in}
 use Rattle.stream.proofs.Fitting.{all_in, fit_of, read_ranged}

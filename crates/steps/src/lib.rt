@@ -1,6 +1,7 @@
 // Document 01's steps 11 to 15, and what a request is answered with. Of the request and the table they look at a few numbers only, which are
 // gathered once (`Sight`); nothing here changes a table.
 #![tactic(auto)]
+
 mod cases;
 mod replies;
 mod tests;

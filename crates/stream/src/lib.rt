@@ -1,5 +1,6 @@
 // One stream of the box: its values, its PIDs, and what a query makes of them. All of it is by value; no byte of a request is copied.
 #![tactic(auto)]
+
 mod attributes;
 mod pids;
 

@@ -1,6 +1,7 @@
 // The box's table: its sessions and streams, and a fresh one. Any bytes are a table; whether a box could stand so is said by
 // the crate `formed`.
 #![tactic(auto)]
+
 mod numbers;
 mod reach;
 

@@ -1,0 +1,5 @@
+use Rattle.writing.proofs.Writes.{◌then◌}
+use Rattle.answer.proofs.status.put_unnamed.Goals as goal
+
+pub returns : goal.returns
+returns c = search ◌then◌

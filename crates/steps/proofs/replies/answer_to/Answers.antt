@@ -1,0 +1,6 @@
+use Rattle.steps.specs.Handed.{reply_to}
+use Rattle.steps.proofs.replies.answer_to.Goals as goal
+
+pub returns : goal.returns
+unfolding reply_to
+returns c = rw (c.word_of.ensures, c.status.ensures, c.kind_of.ensures)
