@@ -1,6 +1,7 @@
 // The door to C: the box lent by a reference, one thin function for each call. Each hands the box by value to the call, and stores what the
 // call gives. What C gets back is a refusal's number, 0 where the call was done, and what was counted.
 #![tactic(auto)]
+
 mod records;
 mod turns;
 

@@ -1,6 +1,7 @@
 // The lines that the programs read from standard input, and the short form in which a line holds a request. Every function has an answer
 // for all bytes and all places, and looks at each byte at most once, `place_among` once for each word that is as long.
 #![tactic(auto)]
+
 ghost use Rattle.std.specs.Prelude.{◌≡◌};
 ghost use Rattle.writing.specs.Wrote.{Wrote};
 ghost use Rattle.scan.specs.Text.{place_among};

@@ -2,6 +2,7 @@
 // is named, which comes here set. Nothing here changes a table: what is needed of it is looked up before, and a turn says in few numbers what is
 // to change.
 #![tactic(auto)]
+
 mod opening;
 
 ghost use Rattle.std.specs.Prelude.{◌≡◌};
