@@ -26,7 +26,7 @@ leads_agree (begun g) = g
 leads_agree (quiet p q g) = g
 leads_agree (noted p q g) = g
 
-pub leads_then : {h k l : List Record} {t u v : SatBox} → Leads h t k u → Leads k u l v → Leads h t l v
+pub leads_then : {h k : List Record} {t u : SatBox} {l : List Record} {v : SatBox} → Leads h t k u → Leads k u l v → Leads h t l v
 leads_then p (begun g) = p
 leads_then p (quiet q c g) = quiet (leads_then p q) c g
 leads_then p (noted q c g) = noted (leads_then p q) c g

@@ -63,7 +63,7 @@ asking_does {x} g s =
 
 all_do : {x : Life} → Good (settings_of 2 1024) x → (ss : List (List ℕ)) → (run (map asking ss) x).satbox ≡ asked 1 ss x.satbox
 all_do g [] = refl
-all_do g (s ∷ ss) = all_do (live_good g (asking s) refl) ss ∙ ap (asked 1 ss) (asking_does g s)
+all_do {x = x} g (s ∷ ss) = all_do {x = live (asking s) x} (live_good g (asking s) refl) ss ∙ ap (asked 1 ss) (asking_does g s)
 
 -- the box after n rounds: nobody is open, and the two records of each are held
 abbrev idle : ℕ → SatBox

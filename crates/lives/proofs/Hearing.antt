@@ -35,6 +35,7 @@ use Rattle.satbox.specs.Calls.{if_done, tick_outcome, ticked, collect_outcome, c
 use Rattle.serving.specs.declared.opening.Client.{Client}
 use Rattle.closings.proofs.Closings.{closable}
 use Rattle.closings.proofs.Keeping.{Whole, whole_roomy, clock_whole, sweep_at_whole}
+use Rattle.journal.specs.Records.{next_sequence}
 use Rattle.closings.proofs.Leaving.{leaving, joiner_records, owner_records}
 use Rattle.closings.proofs.Runs.{upto_holds}
 use Rattle.satbox.proofs.Kept.{sweeping_whole}
@@ -89,7 +90,7 @@ module _ (n c : ℕ) (some : n ≡ 0 → ⊥) where
   leaving_late : (clock : ℕ) (ms : List Stream) (id q : ℕ) (l : List Session) → all (is_late n c) (leaving clock ms id q l) ≡ true
   leaving_late clock ms id q [] = refl
   leaving_late clock ms id q (s ∷ l) =
-      cond_keeps (λ rs. all (is_late n c) rs ≡ true) (is_on id s) _ _ (λ e. leaving_late clock ms id _ l) (λ e. leaving_late clock ms id q l)
+      cond_keeps (λ rs. all (is_late n c) rs ≡ true) (is_on id s) _ _ (λ e. leaving_late clock ms id (next_sequence q) l) (λ e. leaving_late clock ms id q l)
 
   heard_after : {t : SatBox} {d : Did} (s after : Session) → (s.number ≡ n → c ≤ s.last) → Fate t d s after → after.number ≡ n → c ≤ after.last
   heard_after s after h (stays e k) z = subst (λ (x : Session). x.number ≡ n → c ≤ x.last) (sym e) h z

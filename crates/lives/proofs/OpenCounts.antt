@@ -54,7 +54,7 @@ quiet_moves_none (retune id m e) = refl
 quiet_moves_none {t} (replace place s n m o) = count_set_same is_open t.sessions place s no_session (rw n)
 quiet_moves_none empty = refl
 
-pub leads_count : {h k : List Record} {t u : SatBox} → Leads h t k u → open_in u + count says_closed k + count says_opened h ≡ open_in t + count says_opened k + count says_closed h
+pub leads_count : {h : List Record} {t : SatBox} {k : List Record} {u : SatBox} → Leads h t k u → open_in u + count says_closed k + count says_opened h ≡ open_in t + count says_opened k + count says_closed h
 leads_count (begun g) = omega arith
 leads_count (quiet p q g) = omega (arith, leads_count p, quiet_moves_none q)
 leads_count (noted {k = k} {d = d} p q g) =

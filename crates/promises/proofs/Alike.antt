@@ -1,11 +1,11 @@
 -- Contracts that are records: two values that meet one are equal. Assumes nothing.
 use mathlib.Core.Path.{◌≡◌, refl, sym, ap, ◌∙◌}
-use mathlib.Core.Bool.{true, false}
+use mathlib.Core.Bool.{true}
 use mathlib.Core.List.{List}
 use Prim.Native.Nat.{ℕ, ◌+◌, ◌<◌}
 use native.Mathlib.Omega.{arith}
 use lib.Dec.{eqb}
-use lib.ListN.{length, get_or}
+use lib.ListN.{length}
 use lib.Seq.{ext_get_or}
 use borrow.Author.Tests.{eqb-false}
 use Rattle.scan.specs.Found.{Holds, nowhere, Trimmed}
@@ -13,8 +13,6 @@ use Rattle.scan.specs.declared.Span.{Span}
 use Rattle.scan.proofs.Bools.{never, Case, is, isnt, case}
 use Rattle.scan.proofs.Parts.{holds_length}
 use Rattle.scan.proofs.Trims.{trimmed_one}
-use Rattle.lines.specs.Lines.{header_lines}
-use Rattle.lines.specs.Headers.{values_of}
 use Rattle.lines.specs.Laid.{SeenIs, LinesAre, unseen}
 use Rattle.lines.specs.declared.Seen.{Seen}
 use Rattle.lines.specs.declared.Lines.{Lines}

@@ -9,7 +9,6 @@ use lib.Dec.{eqb}
 use borrow.Author.Tests.{not-true, ne_eqb, eqb-true}
 use Rattle.scan.specs.Lists.{all}
 use Rattle.scan.proofs.Bools.{Case as Test, case, is, isnt, Same, sames, same, other, and_both, or_second}
-use Rattle.target.specs.Uri.{has_query, query_of}
 use Rattle.tuning.specs.Values.{value_of}
 use Rattle.aim.specs.Query.{parts_of, attribute_in}
 use Rattle.aim.specs.Found.{code_among, part_value, is_within}

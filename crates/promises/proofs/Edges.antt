@@ -332,33 +332,3 @@ pub record P11 : Type 0 where
 pub p11 : P11
 unfolding meanings
 p11 = record { answer = refl; its_record = refl; outcome = refl; into = refl; behind = refl }
-
--- all of them
-pub record Edges : Type 0 where
-  pub empty_request : P1
-  pub age : P2
-  pub draw_zero : P3
-  pub draw_last : P4
-  pub combination : P5
-  pub pids : P6
-  pub pid : P7
-  pub freq : P8
-  pub room : P9
-  pub port : P10
-  pub first_record_law : P11
-
-pub edges : Edges
-edges =
-    record {
-      empty_request = p1;
-      age = p2;
-      draw_zero = p3;
-      draw_last = p4;
-      combination = p5;
-      pids = p6;
-      pid = p7;
-      freq = p8;
-      room = p9;
-      port = p10;
-      first_record_law = p11;
-    }

@@ -23,7 +23,7 @@ use Rattle.closings.specs.Closing.{closing}
 use Rattle.closings.proofs.Keeping.{Whole}
 use Rattle.serving.specs.Serving.{merging, merges, is_unreached, is_opening, case_of, with_session, refreshed, kept, Serving, grant, denied, served, client_of, answered}
 use Rattle.serving.specs.declared.opening.Client.{Client}
-use Rattle.serving.proofs.Kept.{closing_again, seat, since, kept_by, kept_named, kept_alone, kept_settings, kept_streams, kept_place}
+use Rattle.serving.proofs.Kept.{closing_again, seat, since, kept_by, kept_named, kept_alone, kept_streams, kept_place}
 use Rattle.satbox.proofs.RequestLaws.{grant_passes, case_unread}
 
 -- one that names a session opens none, so it does not ask for a free place
@@ -67,7 +67,6 @@ module _ (a : Asked) (t : SatBox) where
       rw (
         kept_place a t a.session,
         kept_streams a t,
-        kept_settings a t,
         kept_session (λ s. s.number) (λ c s. refl) at,
         kept_session (λ s. s.stream) (λ c s. refl) at,
         kept_session (λ s. s.owner) (λ c s. refl) at,

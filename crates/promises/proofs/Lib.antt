@@ -10,6 +10,7 @@ pub mod Naming
 pub mod Asks
 pub mod EdgeLaws
 pub mod Edges
+pub mod Together
 pub mod Granting
 pub mod Alike
 pub mod Unique
