@@ -13,21 +13,21 @@ use Rattle.answer.specs.declared.Kind.TheVariants.{Bare, Allow, Public, Unsuppor
 use Rattle.answer.specs.declared.Answer.{Answer}
 
 -- numbers of 32 bits, as the code's are
-abbrev pub Is-small_law : ℕ → Type 0
-Is-small_law v = v < 4294967296
+abbrev pub IsSmall : ℕ → Type 0
+IsSmall v = v < 4294967296
 
 pub record Small (a : Answer) : Type 0 where
-  pub status : Is-small_law a.status
-  pub session : Is-small_law a.session
-  pub stream : Is-small_law a.stream
-  pub address : Is-small_law a.address
-  pub port : Is-small_law a.port
+  pub status : IsSmall a.status
+  pub session : IsSmall a.session
+  pub stream : IsSmall a.stream
+  pub address : IsSmall a.address
+  pub port : IsSmall a.port
 
 -- two texts in a row
 both_fit : (x y : List ℕ) (m n : ℕ) → length x ≤ m → length y ≤ n → length (x & y) ≤ m + n
 both_fit x y m n p q = rw length-append (omega arith)
 
-numbered_fits : (name : List ℕ) (v : ℕ) → Is-small_law v → length (numbered name v) ≤ length name + 12
+numbered_fits : (name : List ℕ) (v : ℕ) → IsSmall v → length (numbered name v) ≤ length name + 12
 numbered_fits name v h = rw (length-append, length-append) (omega (arith, decimal_length 9 v (omega arith)))
 
 -- what holds of each of two holds of the one that a test gives

@@ -14,9 +14,9 @@ use Rattle.digits.specs.declared.Zeros.{Zeros}
 use Rattle.digits.specs.declared.Zeros.TheVariants.{Allowed, Refused}
 
 -- a number, where one was read
-abbrev pub Is-read_law : (ℕ → Type 0) → Read → Type 0
-Is-read_law P (Value v) = P v
-Is-read_law P Nothing = Unit {0}
+abbrev pub IsRead : (ℕ → Type 0) → Read → Type 0
+IsRead P (Value v) = P v
+IsRead P Nothing = Unit {0}
 
 -- a text of which a number is read: its digits, all of it, are as many and say as much as they may
 pub record AreDigits (base most limit : ℕ) (xs : List ℕ) : Type 0 where
@@ -36,25 +36,25 @@ are_digits_law base most limit xs =
     (λ _ e. never e refl)
 
 -- it is at most its limit
-read_most : (base most limit : ℕ) (xs : List ℕ) → Is-read_law (λ v. v ≤ limit) (read_in base most limit xs)
+read_most : (base most limit : ℕ) (xs : List ℕ) → IsRead (λ v. v ≤ limit) (read_in base most limit xs)
 read_most base most limit xs =
-    cond_keeps (Is-read_law (λ v. v ≤ limit)) (leb 1 (length xs) && (leb (length xs) most && (are_digits base xs && leb (spelled base xs) limit)))
+    cond_keeps (IsRead (λ v. v ≤ limit)) (leb 1 (length xs) && (leb (length xs) most && (are_digits base xs && leb (spelled base xs) limit)))
     (Value (spelled base xs)) Nothing
     (λ e. let m = (and_both (leb (length xs) most) _ (and_both (leb 1 (length xs)) _ e).1).1 in
     leb-true (spelled base xs) limit (and_both (are_digits base xs) _ m).1)
     (λ _. tt)
 
-pub number_most : (zeros : Zeros) (most limit : ℕ) (xs : List ℕ) → Is-read_law (λ v. v ≤ limit) (read_number zeros most limit xs)
+pub number_most : (zeros : Zeros) (most limit : ℕ) (xs : List ℕ) → IsRead (λ v. v ≤ limit) (read_number zeros most limit xs)
 unfolding read_number
 number_most Allowed most limit xs = read_most 10 most limit xs
 number_most Refused most limit xs =
-    cond_keeps (Is-read_law (λ v. v ≤ limit)) (has_leading_zero xs) Nothing (read_in 10 most limit xs) (λ _. tt) (λ _. read_most 10 most limit xs)
+    cond_keeps (IsRead (λ v. v ≤ limit)) (has_leading_zero xs) Nothing (read_in 10 most limit xs) (λ _. tt) (λ _. read_most 10 most limit xs)
 
 -- and at least what it must be
-pub number_between : (zeros : Zeros) (most least limit : ℕ) (xs : List ℕ) → Is-read_law (λ v. (least ≤ v) × (v ≤ limit)) (at_least least (read_number zeros most limit xs))
+pub number_between : (zeros : Zeros) (most least limit : ℕ) (xs : List ℕ) → IsRead (λ v. (least ≤ v) × (v ≤ limit)) (at_least least (read_number zeros most limit xs))
 number_between zeros most least limit xs = by (read_number zeros most limit xs) (number_most zeros most limit xs)
   where
-    by : (r : Read) → Is-read_law (λ v. v ≤ limit) r → Is-read_law (λ v. (least ≤ v) × (v ≤ limit)) (at_least least r)
+    by : (r : Read) → IsRead (λ v. v ≤ limit) r → IsRead (λ v. (least ≤ v) × (v ≤ limit)) (at_least least r)
     by (Value v) h =
-        cond_keeps (Is-read_law (λ w. (least ≤ w) × (w ≤ limit))) (leb least v) (Value v) Nothing (λ e. (leb-true least v e, h)) (λ _. tt)
+        cond_keeps (IsRead (λ w. (least ≤ w) × (w ≤ limit))) (leb least v) (Value v) Nothing (λ e. (leb-true least v e, h)) (λ _. tt)
     by Nothing h = tt

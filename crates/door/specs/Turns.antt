@@ -3,7 +3,7 @@ use Rattle.std.specs.Prelude.{ℕ}
 use Rattle.stream.specs.declared.Stream.{Stream}
 use Rattle.table.specs.Made.{refusal_number, number_in}
 use Rattle.table.specs.declared.Outcome.{Outcome}
-use Rattle.orders.specs.declared.Ordered.{Ordered as Order-outcome}
+use Rattle.orders.specs.declared.Ordered.{Ordered as OrderOutcome}
 use Rattle.orders.specs.declared.Ordered.TheVariants.{On, Off, Refused as Unordered}
 use Rattle.door.specs.declared.turns.Reply.{Reply}
 use Rattle.door.specs.declared.turns.Ordered.{Ordered}
@@ -19,7 +19,7 @@ use Rattle.door.specs.declared.records.Noted.{Noted}
 abbrev pub reply_of : Outcome → ℕ → Reply
 reply_of outcome count = record { refusal = number_in outcome; count = count }
 
-abbrev pub ordered_as : Order-outcome → Stream → Ordered
+abbrev pub ordered_as : OrderOutcome → Stream → Ordered
 ordered_as On m = record { refusal = 0; on = 1; stream = m }
 ordered_as Off m = record { refusal = 0; on = 0; stream = m }
 ordered_as (Unordered refusal) m = record { refusal = refusal_number refusal; on = 0; stream = m }

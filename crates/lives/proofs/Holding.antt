@@ -22,7 +22,7 @@ use Rattle.satbox.specs.Calls.{if_done, emptied}
 use Rattle.closings.proofs.DoesLaws.{bytes_append, bytes_length}
 use Rattle.closings.proofs.Keeping.{Whole}
 use Rattle.satbox.proofs.Kept.{fresh_whole}
-use Rattle.serving.proofs.RecordLaws.{Counts-on_law}
+use Rattle.serving.proofs.RecordLaws.{CountsOn}
 use Rattle.serving.proofs.Recorded.{Recorded}
 use Rattle.promises.proofs.Written.{Counted}
 use Rattle.lives.specs.Calls.{Lent, own, lent, own_after, Life, life_after}
@@ -36,7 +36,7 @@ pub record Good (settings : Settings) (x : Life) : Type 0 where
   pub journal : length x.journal ≡ settings.size
   pub held : x.satbox.held ≡ 16 * length x.since
   pub text : take x.satbox.held x.journal ≡ bytes_of x.since
-  pub sequence : Counts-on_law 0 x.history x.satbox.sequence
+  pub sequence : CountsOn 0 x.history x.satbox.sequence
   pub recorded : all is_record x.history ≡ true
   pub past : List Record
   pub split : x.history ≡ past ++ x.since

@@ -21,7 +21,7 @@ use Rattle.table.specs.declared.Outcome.TheVariants.{Done, Refused}
 use Rattle.closings.specs.Closing.{Did, bytes_of, sweeping}
 use Rattle.satbox.specs.Calls.{if_done, tick_outcome, ticked, collect_outcome, emptied, collected, request_outcome, requested, replied}
 use Rattle.closings.proofs.DoesLaws.{bytes_length}
-use Rattle.serving.proofs.RecordLaws.{Counts-on_law}
+use Rattle.serving.proofs.RecordLaws.{CountsOn}
 use Rattle.lives.specs.Calls.{lent, Call, request, tick, collect, order, is_short, is_call, Life, live, run, Lives, life_after}
 use Rattle.lives.proofs.Journals.{counts_at}
 use Rattle.lives.proofs.Fitting.{Short, is_fit, Fits, all_both, sweeping_fits, requested_fits}
@@ -59,7 +59,7 @@ unfolding write_of
 record_read r e f = written_read r (encoded r) f (rw e)
 
 -- EACH RECORD IS READ BACK
-pub read_back : (rs : List Record) (next : ℕ) → all is_record rs ≡ true → all is_fit rs ≡ true → Counts-on_law 0 rs next → (i : ℕ) (d : Record) → i < length rs → read_at (bytes_of rs) i ≡ Sound (get_or rs i d)
+pub read_back : (rs : List Record) (next : ℕ) → all is_record rs ≡ true → all is_fit rs ≡ true → CountsOn 0 rs next → (i : ℕ) (d : Record) → i < length rs → read_at (bytes_of rs) i ≡ Sound (get_or rs i d)
 unfolding read_at
 read_back rs next records fit counts i d h =
     let r = get_or rs i d in
@@ -85,11 +85,11 @@ module _ {settings : Settings} {x : Life} (g : Good settings x) (f : Fitted x) w
   short = record { clock = g.clock; numbers = f.numbers }
 
   -- what a call did, or not
-  Fitted-by_law : Outcome → Did → Type 0
-  Fitted-by_law o d = ((k : ℕ) → (session_at (if_done o d.satbox x.satbox) k).number < 4294967296) × (all is_fit (x.history ++ if_done o d.records []) ≡ true)
+  FittedBy : Outcome → Did → Type 0
+  FittedBy o d = ((k : ℕ) → (session_at (if_done o d.satbox x.satbox) k).number < 4294967296) × (all is_fit (x.history ++ if_done o d.records []) ≡ true)
 
-  fitted_by : (o : Outcome) (d : Did) → Fits x.satbox d → Fitted-by_law o d
-  unfolding Fitted-by_law
+  fitted_by : (o : Outcome) (d : Did) → Fits x.satbox d → FittedBy o d
+  unfolding FittedBy
   fitted_by Done d h = (h.kept.numbers, all_both is_fit x.history d.records f.fit h.fit)
   fitted_by (Refused r) d h = (f.numbers, fit_nothing x.history f.fit)
 
@@ -99,7 +99,7 @@ module _ {settings : Settings} {x : Life} (g : Good settings x) (f : Fitted x) w
   emptied_numbers (Refused r) k = f.numbers k
 
   live_fitted : (c : Call) → is_call settings.size c ≡ true → Fitted (live c x)
-  unfolding live replied ticked collected Fitted-by_law
+  unfolding live replied ticked collected FittedBy
   live_fitted (request s clock address draw b l) e =
       let p = and_both (is_short clock) _ e in
       let q = and_both (is_short draw) _ (and_both (is_short address) _ p.1).1 in

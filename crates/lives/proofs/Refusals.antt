@@ -47,16 +47,16 @@ gated true false o f h = (λ e. omega arith, (λ e. refl, λ e. refl))
 ungated : (o : Outcome) → Past o → Gated false o
 ungated o h = (h.0, (λ e. absurd (h.1 e), λ e. never e refl))
 
-abbrev Ordered-past_law : Order → Type 0
-Ordered-past_law o = Past (order_outcome o.outcome)
+abbrev OrderedPast : Order → Type 0
+OrderedPast o = Past (order_outcome o.outcome)
 
-order_past : (t : SatBox) (n : ℕ) → well_formed t ≡ true → Ordered-past_law (order_of t n)
+order_past : (t : SatBox) (n : ℕ) → well_formed t ≡ true → OrderedPast (order_of t n)
 unfolding order_of order_for order_at
 order_past t n f =
     rw f
-    (cond_keeps Ordered-past_law (is_between 1 t.settings.frontends n) _ _
-    (λ e. cond_keeps Ordered-past_law (ltb (first (is_fed n) t.streams) (length t.streams)) _ _
-    (λ h. cond_keeps Ordered-past_law (any (plays_as_owner (suc (first (is_fed n) t.streams))) t.sessions && are_complete (stream_of t (suc (first (is_fed n) t.streams))).values) _ _ (λ y. past_done) (λ y. past_done))
+    (cond_keeps OrderedPast (is_between 1 t.settings.frontends n) _ _
+    (λ e. cond_keeps OrderedPast (ltb (first (is_fed n) t.streams) (length t.streams)) _ _
+    (λ h. cond_keeps OrderedPast (any (plays_as_owner (suc (first (is_fed n) t.streams))) t.sessions && are_complete (stream_of t (suc (first (is_fed n) t.streams))).values) _ _ (λ y. past_done) (λ y. past_done))
     (λ h. past_done))
     (λ e. (λ y. omega arith, λ y. omega arith)))
 

@@ -34,11 +34,11 @@ use Rattle.promises.proofs.Serving.{Fit, proper_client, new_sound}
 use Rattle.promises.proofs.Requests.{answered_by, Reads}
 
 -- THE BYTES HELD, 16 for each record; AND THE SEQUENCE, each record's the next
-abbrev pub Held-on_law : SatBox → Did → Type 0
-Held-on_law t d = d.satbox.held ≡ t.held + 16 * length d.records
+abbrev pub HeldOn : SatBox → Did → Type 0
+HeldOn t d = d.satbox.held ≡ t.held + 16 * length d.records
 
 pub record Counted (t : SatBox) (d : Did) : Type 0 where
-  pub held : Held-on_law t d
+  pub held : HeldOn t d
   pub sequence : Numbered t d
 
 quiet_counted : (t u : SatBox) → u.held ≡ t.held → u.sequence ≡ t.sequence → Counted t (nothing u)
@@ -52,7 +52,7 @@ joining_counted : (id : ℕ) (client : Client) (t : SatBox) → Counted t (joini
 unfolding joining seated noting reseated
 joining_counted id client t =
     record {
-      held = cond_keeps (Held-on_law t) (can_join id t) (seated 2 (guest 0 id client t) t) (nothing t) (λ e. refl) (λ e. omega arith);
+      held = cond_keeps (HeldOn t) (can_join id t) (seated 2 (guest 0 id client t) t) (nothing t) (λ e. refl) (λ e. omega arith);
       sequence = joining_numbered id client t;
     }
 
@@ -61,7 +61,7 @@ unfolding opening seated noting reseated restreamed
 opening_counted m client t =
     let id = lowest_id t.streams in
     record {
-      held = cond_keeps (Held-on_law t) (can_open m.values.src m.frontend t) (seated 1 (guest 1 id client t) (restreamed id m t)) (nothing t) (λ e. refl) (λ e. omega arith);
+      held = cond_keeps (HeldOn t) (can_open m.values.src m.frontend t) (seated 1 (guest 1 id client t) (restreamed id m t)) (nothing t) (λ e. refl) (λ e. omega arith);
       sequence = opening_numbered m client t;
     }
 

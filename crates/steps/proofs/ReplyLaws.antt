@@ -66,11 +66,11 @@ pub data Follows (r : Request) (c : Case) : Type 0 where
   follows_refused : c ≡ Reading r.refusal → reading.is_read r.refusal ≡ false → Follows r c
 
 -- a case that refuses, and is answered without a line of its own
-abbrev Is-bare_law : Case → Type 0
-Is-bare_law c = (is_passed c ≡ false) × ((method : Method) → kind_of c method ≡ kind.Bare) × ((value : List ℕ) → refused_lines (rule_of c).0 value ≡ [])
+abbrev IsBare : Case → Type 0
+IsBare c = (is_passed c ≡ false) × ((method : Method) → kind_of c method ≡ kind.Bare) × ((value : List ℕ) → refused_lines (rule_of c).0 value ≡ [])
 
 -- what holds of the case that passes, and of every such case, holds of all that are not the reading's
-unread_keeps : (P : Case → Type 0) → P Passed → ((c : Case) → Is-bare_law c → P c) → (c : Case) → is_reading c ≡ false → P c
+unread_keeps : (P : Case → Type 0) → P Passed → ((c : Case) → IsBare c → P c) → (c : Case) → is_reading c ≡ false → P c
 unread_keeps P p q Passed n = p
 unread_keeps P p q (Reading x) n = never refl n
 unread_keeps P p q NoSession n = q NoSession (refl, λ _. refl, λ _. refl)
@@ -256,17 +256,17 @@ status_small NotReached = omega arith
 status_small Full = omega arith
 
 -- CSeq has ten digits at most
-abbrev Is-short_law : List ℕ → Type 0
-Is-short_law digits = length digits ≤ 10
+abbrev IsShort : List ℕ → Type 0
+IsShort digits = length digits ≤ 10
 
-pub cseq_short : (s : List ℕ) → Is-short_law (cseq_of s)
+pub cseq_short : (s : List ℕ) → IsShort (cseq_of s)
 unfolding cseq_of
 cseq_short s =
     let vs = values_of 0 (header_lines s) in
     let v = first_value vs in
-    cond_keeps Is-short_law (is_laid_out s) (cond (eqb (length vs) 1) (digits_read 10 cseq_most cseq_limit v) []) []
-    (λ _. cond_keeps Is-short_law (eqb (length vs) 1) (digits_read 10 cseq_most cseq_limit v) []
-    (λ _. cond_keeps Is-short_law (is_value (read_in 10 cseq_most cseq_limit v)) v [] (λ y. omega (arith, (are_digits_law 10 cseq_most cseq_limit v y).few)) (λ _. omega arith))
+    cond_keeps IsShort (is_laid_out s) (cond (eqb (length vs) 1) (digits_read 10 cseq_most cseq_limit v) []) []
+    (λ _. cond_keeps IsShort (eqb (length vs) 1) (digits_read 10 cseq_most cseq_limit v) []
+    (λ _. cond_keeps IsShort (is_value (read_in 10 cseq_most cseq_limit v)) v [] (λ y. omega (arith, (are_digits_law 10 cseq_most cseq_limit v y).few)) (λ _. omega arith))
     (λ _. omega arith))
     (λ _. omega arith)
 

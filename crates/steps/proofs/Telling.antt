@@ -18,7 +18,7 @@ use Rattle.digits.specs.Reading.{read_number, at_least}
 use Rattle.digits.specs.declared.Zeros.TheVariants.{Allowed, Refused}
 use Rattle.digits.specs.declared.Read.{Read}
 use Rattle.digits.specs.declared.Read.TheVariants.{Value, Nothing}
-use Rattle.digits.proofs.Limits.{Is-read_law, number_between}
+use Rattle.digits.proofs.Limits.{IsRead, number_between}
 use Rattle.lines.specs.Lines.{is_laid_out}
 use Rattle.target.specs.Uri.{starts_with, query_of}
 use Rattle.tuning.specs.Values.{value_of}
@@ -105,27 +105,27 @@ unfolding value_of
 asked_fe frontends s =
     rw (code_at frontends 1 (uri_of s) (omega arith))
     (code_keeps (λ c. c ≤ frontends) frontends 1 (uri_of s) (omega arith)
-    (λ xs c e. (subst (Is-read_law (λ v. (1 ≤ v) × (v ≤ frontends))) e (number_between Allowed 5 1 frontends xs)).1))
+    (λ xs c e. (subst (IsRead (λ v. (1 ≤ v) × (v ≤ frontends))) e (number_between Allowed 5 1 frontends xs)).1))
 
 -- the first of the two ports of a Transport that is of its form
-abbrev Is-port_law : ℕ → Type 0
-Is-port_law p = (1024 ≤ p) × (p ≤ 65534) × (p % 2 ≡ 0)
+abbrev IsPort : ℕ → Type 0
+IsPort p = (1024 ≤ p) × (p ≤ 65534) × (p % 2 ≡ 0)
 
-abbrev Is-transport_law : Transport → Type 0
-Is-transport_law Other = Unit {0}
-Is-transport_law (Port p) = Is-port_law p
+abbrev IsTransport : Transport → Type 0
+IsTransport Other = Unit {0}
+IsTransport (Port p) = IsPort p
 
-ports_paired : (a b : Read) → Is-read_law (λ v. (1024 ≤ v) × (v ≤ 65534)) a → Is-transport_law (port_from a b)
+ports_paired : (a b : Read) → IsRead (λ v. (1024 ≤ v) × (v ≤ 65534)) a → IsTransport (port_from a b)
 ports_paired (Value a) (Value b) h =
-    cond_keeps Is-transport_law (is_pair a b) (Port a) Other (λ e. (h.0, h.1, eqb-true (a % 2) 0 (and_both (eqb (a % 2) 0) _ e).0)) (λ _. tt)
+    cond_keeps IsTransport (is_pair a b) (Port a) Other (λ e. (h.0, h.1, eqb-true (a % 2) 0 (and_both (eqb (a % 2) 0) _ e).0)) (λ _. tt)
 ports_paired (Value a) Nothing h = tt
 ports_paired Nothing b h = tt
 
 pub asked_port : (v : List ℕ) (port : ℕ) → transport_of v ≡ Port port → (1024 ≤ port) × (port ≤ 65534) × (port % 2 ≡ 0)
 unfolding transport_of
 asked_port v port e =
-    subst Is-transport_law e
-    (cond_keeps Is-transport_law (starts_with (text "RTP/AVP;unicast;client_port=") v) (ports_in (drop 28 v)) Other
+    subst IsTransport e
+    (cond_keeps IsTransport (starts_with (text "RTP/AVP;unicast;client_port=") v) (ports_in (drop 28 v)) Other
     (λ _. let ports = drop 28 v in
     ports_paired (at_least 1024 (read_number Refused 5 65534 (part 0 (dash ports) ports))) _ (number_between Refused 5 1024 65534 (part 0 (dash ports) ports)))
     (λ _. tt))

@@ -8,7 +8,7 @@ use lib.Seq.{length-take-le}
 use Rattle.digits.specs.declared.Read.{Read}
 use Rattle.digits.specs.declared.Read.TheVariants.{Value, Nothing}
 use Rattle.digits.specs.declared.Zeros.TheVariants.{Allowed}
-use Rattle.digits.proofs.Limits.{Is-read_law, number_most}
+use Rattle.digits.proofs.Limits.{IsRead, number_most}
 use Rattle.stream.specs.Pids.{added, removed}
 use Rattle.stream.specs.Arrays.{read_pid, There, Missing, Placed, Front, Held, once}
 use Rattle.stream.specs.declared.pids.Place.{Place}
@@ -16,7 +16,7 @@ use Rattle.stream.specs.declared.pids.Place.TheVariants.{At, Before}
 
 -- a PID is at most 8191
 pub pid_most : (xs : List ℕ) {v : ℕ} → read_pid xs ≡ Value v → v ≤ 8191
-pid_most xs e = subst (Is-read_law (λ v. v ≤ 8191)) e (number_most Allowed 5 8191 xs)
+pid_most xs e = subst (IsRead (λ v. v ≤ 8191)) e (number_most Allowed 5 8191 xs)
 
 -- nothing is changed
 pub front_same : (a : List ℕ) (count : ℕ) {l : List ℕ} → l ≡ take count a → count ≤ 32 → Front l a count

@@ -14,7 +14,7 @@ use Rattle.scan.specs.declared.Case.TheVariants.{Counts}
 use Rattle.scan.proofs.Bools.{never, and_both, by_test, both, or_right}
 use Rattle.digits.specs.declared.Read.TheVariants.{Value, Nothing}
 use Rattle.digits.specs.declared.Zeros.TheVariants.{Allowed}
-use Rattle.digits.proofs.Limits.{Is-read_law, number_between}
+use Rattle.digits.proofs.Limits.{IsRead, number_between}
 use Rattle.digits.specs.Reading.{read_number, at_least}
 use Rattle.tuning.specs.Values.{plain, word, frequency, value_of, is_megahertz}
 use Rattle.stream.specs.Values.{are_in_range, given, merged}
@@ -67,7 +67,7 @@ same_read e = cc
 
 number_ranged : (most low high : ℕ) (xs : List ℕ) {c : ℕ} → at_least low (read_number Allowed most high xs) ≡ Value c → is_between low high c ≡ true
 number_ranged most low high xs {c} e =
-    let b = subst (Is-read_law (λ v. (low ≤ v) × (v ≤ high))) e (number_between Allowed most low high xs) in both (le-leb low c b.0) (le-leb c high b.1)
+    let b = subst (IsRead (λ v. (low ≤ v) × (v ≤ high))) e (number_between Allowed most low high xs) in both (le-leb low c b.0) (le-leb c high b.1)
 
 plain_between : (low high : ℕ) (xs : List ℕ) {c : ℕ} → plain low high xs ≡ Value c → is_between low high c ≡ true
 plain_between low high xs e = number_ranged 5 low high xs e

@@ -16,7 +16,7 @@ use Rattle.digits.specs.Reading.{read_number, digit_of, are_digits, spelled, at_
 use Rattle.digits.specs.declared.Read.{Read}
 use Rattle.digits.specs.declared.Read.TheVariants.{Value, Nothing}
 use Rattle.digits.specs.declared.Zeros.TheVariants.{Allowed}
-use Rattle.digits.proofs.Limits.{Is-read_law, number_most}
+use Rattle.digits.proofs.Limits.{IsRead, number_most}
 use Rattle.tuning.specs.Found.{megahertz, tenfold, fraction, hundredths, frequency_from, in_band}
 use native.Mathlib.Nat.{sub-zero}
 use Rattle.scan.proofs.Loops.{first_within}
@@ -29,7 +29,7 @@ dot xs = first (is 46) xs
 
 -- what was read is at most n
 abbrev AtMost : ℕ → Read → Type 0
-AtMost n r = Is-read_law (λ v. v ≤ n) r
+AtMost n r = IsRead (λ v. v ≤ n) r
 
 either : (n : ℕ) (t : Bool) (a b : Read) → AtMost n a → AtMost n b → AtMost n (cond t a b)
 either n t a b h k = cond_keeps (AtMost n) t a b (λ _. h) (λ _. k)
