@@ -1,5 +1,5 @@
-// The door to C: the box lent by a reference, one thin function for each call. Each hands the box by value to the call, and stores what the
-// call gives. What C gets back is a refusal's number, 0 where the call was done, and what was counted.
+// The door to the box: the box lent by a reference, one thin function for each call, which `door_c` exports to C. Each hands the box by value to
+// the call, and stores what the call gives. What comes back is a refusal's number, 0 where the call was done, and what was counted.
 #![tactic(auto)]
 
 mod records;
@@ -24,8 +24,7 @@ const FIRST: u32 = 1;
 const SECOND: u32 = 4;
 
 // Makes a fresh box of the one that is lent; where that is refused, it stays.
-#[unsafe(no_mangle)]
-pub extern "C" fn satbox_make(t: &mut SatBox, settings: Settings) -> u32
+pub fn satbox_make(t: &mut SatBox, settings: Settings) -> u32
     ensures { (result ≡ number_in (made_of settings).outcome)
         × (t.new ≡ if_done (made_of settings).outcome (made_of settings).satbox t.old) }
 {
@@ -35,8 +34,7 @@ pub extern "C" fn satbox_make(t: &mut SatBox, settings: Settings) -> u32
 }
 
 // Answers a request.
-#[unsafe(no_mangle)]
-pub extern "C" fn satbox_request(
+pub fn satbox_request(
     t: &mut SatBox,
     request: &[u8],
     clock: u32,
@@ -57,8 +55,7 @@ pub extern "C" fn satbox_request(
 }
 
 // Closes every session that has expired.
-#[unsafe(no_mangle)]
-pub extern "C" fn satbox_tick(t: &mut SatBox, clock: u32, journal: &mut [u8]) -> u32
+pub fn satbox_tick(t: &mut SatBox, clock: u32, journal: &mut [u8]) -> u32
     ensures { (result ≡ number_in (ticked clock t.old journal.old).outcome)
         × (t.new ≡ (ticked clock t.old journal.old).satbox)
         × (journal.new ≡ ticked_journal clock t.old journal.old) }
@@ -69,8 +66,7 @@ pub extern "C" fn satbox_tick(t: &mut SatBox, clock: u32, journal: &mut [u8]) ->
 }
 
 // Copies the bytes held to the front of a buffer, after which none are held.
-#[unsafe(no_mangle)]
-pub extern "C" fn satbox_collect(t: &mut SatBox, journal: &[u8], buffer: &mut [u8]) -> Reply
+pub fn satbox_collect(t: &mut SatBox, journal: &[u8], buffer: &mut [u8]) -> Reply
     ensures { (result ≡ reply_of (collected t.old journal.now buffer.old).outcome (collected t.old journal.now buffer.old).count)
         × (t.new ≡ (collected t.old journal.now buffer.old).satbox)
         × (buffer.new ≡ collected_into t.old journal.now buffer.old) }
@@ -81,8 +77,7 @@ pub extern "C" fn satbox_collect(t: &mut SatBox, journal: &[u8], buffer: &mut [u
 }
 
 // What a frontend is to be set to.
-#[unsafe(no_mangle)]
-pub extern "C" fn satbox_order(t: &mut SatBox, frontend: u32) -> Ordered
+pub fn satbox_order(t: &mut SatBox, frontend: u32) -> Ordered
     ensures { (result ≡ ordered_as (order_of t.old frontend).outcome (order_of t.old frontend).stream) × (t.new ≡ t.old) }
 {
     let s = turns::order(*t, frontend);
@@ -91,24 +86,21 @@ pub extern "C" fn satbox_order(t: &mut SatBox, frontend: u32) -> Ordered
 }
 
 // Reads the record at a place; places count from 0.
-#[unsafe(no_mangle)]
-pub extern "C" fn satbox_read_record(bytes: &[u8], place: usize) -> Found
+pub fn satbox_read_record(bytes: &[u8], place: usize) -> Found
     ensures { result ≡ read_from (read_at bytes.now place) }
 {
     records::read(bytes, place)
 }
 
 // Writes a record's sixteen bytes.
-#[unsafe(no_mangle)]
-pub extern "C" fn satbox_write_record(entry: Record) -> Noted
+pub fn satbox_write_record(entry: Record) -> Noted
     ensures { result ≡ write_reply entry }
 {
     records::write(entry)
 }
 
 // The version of this archive, which `satbox.h` has as `SATBOX_VERSION`.
-#[unsafe(no_mangle)]
-pub extern "C" fn satbox_version() -> u32
+pub fn satbox_version() -> u32
     ensures { result ≡ version_number }
 {
     FIRST * 65536 + SECOND
