@@ -6,7 +6,6 @@ mod asking;
 mod calls;
 mod commands;
 mod fields;
-mod input;
 mod lent;
 mod out;
 mod show;
@@ -17,7 +16,7 @@ use std::io;
 fn main(rt: HostRuntime) -> io::Result<()> {
     let mut input = [0u8; 131072];
     let mut journal = [0u8; 65536];
-    let n = input::read_full(&mut rt.stdin(), &mut input)?;
+    let n = script::read_full(&mut rt.stdin(), &mut input)?;
     if n <= 131072 {
         commands::play(&rt, &input[0..n], &mut journal)?;
     }

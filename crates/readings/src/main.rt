@@ -2,7 +2,6 @@
 #![tactic(auto)]
 
 mod asked;
-mod input;
 mod out;
 mod requests;
 

@@ -1,5 +1,5 @@
 // Standard input, line by line: each is a request in its short form.
-use crate::{asked, input, out};
+use crate::{asked, out};
 use std::io::{self, Read};
 
 // The line in brackets; of a long one its start.
@@ -28,7 +28,7 @@ fn line(rt: &impl Print, s: &[u8]) -> io::Result<()> {
 
 pub(crate) fn run(from: &mut impl Read, rt: &impl Print) -> io::Result<()> {
     let mut input = [0u8; 65536];
-    let n = input::read_full(from, &mut input)?;
+    let n = script::read_full(from, &mut input)?;
     let mut p = 0;
     while p < n {
         let s = script::line(&input[0..n], p);

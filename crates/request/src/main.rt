@@ -3,8 +3,7 @@
 
 mod input;
 
-ghost use Rattle.std.specs.Prelude.{◌≡◌, ◌++◌, ◌≤◌, length, drop};
-ghost use Rattle.request.specs.Counts.{IsPrefixLen};
+ghost use Rattle.std.specs.Prelude.{◌≡◌, ◌++◌, ◌≤◌, length, take, drop};
 ghost use Rattle.request.specs.Program.{printed};
 
 use std::io;
@@ -25,7 +24,8 @@ fn answer(request: &[u8], buffer: &mut [u8]) -> usize
     requires { 4096 ≤ length buffer.old }
     ensures value { (result ≡ length (printed request.now))
         × (buffer.new ≡ printed request.now ++ drop result buffer.old) }
-    ensures prefix_len { IsPrefixLen result buffer.new }
+    ensures fits { result ≤ length buffer.new }
+    ensures prefix_len { result ≡ length (take result buffer.new) }
 {
     let mut journal = [0u8; 1024];
     let satbox = SatBox::fresh(SETTINGS).satbox;

@@ -1,13 +1,31 @@
-// The lines that the programs read from standard input, and the short form in which a line holds a request. Every function has an answer
-// for all bytes and all places, and looks at each byte at most once, `place_among` once for each word that is as long.
+// What the programs read: their input as far as a buffer reaches, its lines, and the short form in which a line holds a request. Every function but
+// the first has an answer for all bytes and all places, and looks at each byte at most once, `place_among` once for each word that is as long.
 #![tactic(auto)]
 
+ghost use Rattle.std.specs.Io.{ReadsAtMost};
 ghost use Rattle.std.specs.Prelude.{◌≡◌};
 ghost use Rattle.writing.specs.Wrote.{Wrote};
 ghost use Rattle.scan.specs.Text.{place_among};
 ghost use Rattle.script.specs.Lines.{line_at, stands_for, unfolded};
 
 use scan::{Case, Class};
+use std::io::{self, Read};
+
+// Reads until a buffer is full or the input ends, and returns how many bytes are at the buffer's front. A read that fails ends it with that error;
+// what the buffer's front then holds is not said.
+pub fn read_full(input: &mut impl Read, buffer: &mut [u8]) -> io::Result<usize>
+    ensures { ReadsAtMost result buffer.new }
+{
+    let mut done = 0;
+    while done < buffer.len() {
+        let n = input.read(&mut buffer[done..])?;
+        if n == 0 {
+            break;
+        }
+        done += n;
+    }
+    Ok(done)
+}
 
 // The line that starts at a place, without its LF; an empty one where the text ends before it.
 pub fn line(s: &[u8], at: usize) -> &[u8]

@@ -3,7 +3,6 @@
 #![tactic(auto)]
 
 mod buffers;
-mod input;
 mod out;
 mod records;
 mod texts;

@@ -1,5 +1,5 @@
 // Every line of standard input through every reading of a text.
-use crate::{input, out};
+use crate::out;
 use digits::Zeros;
 use scan::{Case, Class};
 use std::io::{self, Read};
@@ -43,7 +43,7 @@ fn line(rt: &impl Print, s: &[u8]) -> io::Result<()> {
 
 pub(crate) fn run(from: &mut impl Read, rt: &impl Print) -> io::Result<()> {
     let mut input = [0u8; 4096];
-    let n = input::read_full(from, &mut input)?;
+    let n = script::read_full(from, &mut input)?;
     let mut p = 0;
     while p < n {
         let s = script::line(&input[0..n], p);
