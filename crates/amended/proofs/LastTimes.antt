@@ -1,28 +1,25 @@
 -- ORDER 3: every request that passes step 11 and names an open session sets the last time of that session, and of no other, to the clock used, also if
--- a later step refuses it; refused at steps 1 to 11 it sets nothing. AS BEFORE: but for last times every request does what it did. Assumes nothing.
+-- a later step refuses it; refused at steps 1 to 11 it sets nothing. AS BEFORE: but for last times every request does what it did (`Unchanged`), and
+-- one that names no session, and an OPTIONS, does it whole. Assumes nothing.
 use mathlib.Core.Path.{◌≡◌, refl, sym, ◌∙◌, ap, subst}
-use mathlib.Core.Bool.{Bool, true, false, not, cond, ◌&&◌, ◌||◌}
+use mathlib.Core.Bool.{Bool, true, false, cond, ◌||◌}
 use mathlib.Core.List.{List, [], ◌∷◌, map}
 use Prim.Native.Nat.{ℕ, zero, suc, ◌<◌}
 use native.Mathlib.Omega.{arith}
-use lib.Dec.{eqb, ltb}
+use lib.Dec.{ltb}
 use lib.ListN.{get_or, set}
 use lib.Seq.{get_or-set_other, map-set_same, set-set}
 use borrow.Author.Tests.{eqb-true, lt-ltb, le-ltb, ltb-true}
-use Rattle.scan.specs.Lists.{◌gives◌or◌}
-use Rattle.scan.proofs.Bools.{never, Case as Test, is, isnt, case, Same, same, other, sames, or_neither, cond_keeps}
-use Rattle.target.specs.Uri.{host_of}
+use Rattle.scan.proofs.Bools.{never, Case as Test, is, isnt, case, Same, same, other, sames, or_neither}
 use Rattle.refusals.specs.Refusals as reading
 use Rattle.refusals.specs.declared.Refusal.{Refusal}
 use Rattle.refusals.specs.declared.Refusal.TheVariants as refusal
 use Rattle.aim.specs.declared.Method.{Method}
 use Rattle.aim.specs.declared.Method.TheVariants.{Options, Setup, Play, Teardown, Other}
-use Rattle.reader.specs.Request.{method_of, uri_of, request_refusal}
+use Rattle.reader.specs.Request.{method_of, request_refusal}
 use Rattle.reader.proofs.RequestLaws.{passed_is}
 use Rattle.stream.specs.declared.Stream.{Stream}
 use Rattle.stream.specs.declared.Change.{Change}
-use Rattle.stream.specs.declared.Outcome.{Outcome}
-use Rattle.stream.specs.declared.Outcome.TheVariants.{Merged, Combination as Clash, TooMany}
 use Rattle.table.specs.Table.{no_session, is_free, is_on, session_at, box_with, session_with}
 use Rattle.table.specs.declared.Session.{Session}
 use Rattle.table.specs.declared.SatBox.{SatBox}
@@ -31,50 +28,23 @@ use Rattle.closings.specs.Closing.{Did, nothing, restreamed, sweeping}
 use Rattle.closings.proofs.Keeping.{Whole}
 use Rattle.steps.specs.Sights.{Asked, Lists, asked_of, lists_of, is_absent, place_named, port_of, sight_of}
 use Rattle.steps.specs.Steps.{rule_of, is_passed, is_setup, is_named, table_case}
-use Rattle.steps.specs.Tests.{lacks_session, names_dead, is_out_of_state, is_anothers, lacks_port}
-use Rattle.steps.specs.Replies.{granted_lines, reply_text}
-use Rattle.steps.specs.declared.Sight.{Sight}
+use Rattle.steps.specs.Replies.{reply_text}
 use Rattle.steps.specs.declared.cases.Case.{Case}
-use Rattle.steps.specs.declared.cases.Case.TheVariants.{Passed, Reading, NoSession, NotLive, State, NotOwner, Transport, NotReached, Full}
-use Rattle.serving.specs.Serving.{merging, merges, merge_case, is_unreached, is_opening, can_seat, case_of, with_session, kept, seat_after, Serving, granted, retuned, retuning, grant, denied, served, client_of, answered}
+use Rattle.steps.specs.declared.cases.Case.TheVariants.{Passed, Reading, NoSession}
+use Rattle.serving.specs.Serving.{merging, merges, case_of, with_session, kept, seat_after, Serving, granted, retuned, retuning, grant, denied, served, client_of, answered}
 use Rattle.serving.specs.declared.opening.Client.{Client}
 use Rattle.serving.proofs.Kept.{seat, since, kept_by, kept_named, kept_alone, kept_place}
-use Rattle.satbox.specs.Calls.{requested, answer_of}
 use Rattle.promises.proofs.Requests.{answered_by, left, answered_still}
-use Rattle.promises.proofs.Keeps.{kept_is_named, kept_session, kept_closes, merges_kept, merging_kept, case_kept, answered_case, seated_below}
+use Rattle.promises.proofs.Keeps.{kept_session, merges_kept, merging_kept, case_kept, answered_case, seated_below}
 use Rattle.promises.proofs.Granting.{options_passes}
-use Rattle.promises.proofs.Methods.{but, options_refreshes, options_alone, other_alone, setup_replaces, play_marks, setup_joins, setup_opens, teardown_leaves, teardown_empties}
+use Rattle.promises.proofs.Retuning.{but}
+use Rattle.promises.proofs.Methods.{options_refreshes, options_alone, other_alone, setup_replaces, play_marks, setup_joins, setup_opens, teardown_leaves, teardown_empties}
 use Rattle.promises.proofs.Naming.{names_keeps}
+use Rattle.amended.proofs.Eleven.{case_late}
 
 -- A REQUEST "PASSES STEP 11": no step refuses it, or a later one does
 abbrev pub passes_eleven : Case → Bool
 passes_eleven c = is_passed c || ltb 11 (rule_of c).0
-
-late : (b : Bool) (c d : Case) → passes_eleven c ≡ true → passes_eleven d ≡ true → passes_eleven (b gives c or d) ≡ true
-late b c d p q = cond_keeps (λ x. passes_eleven x ≡ true) b c d (λ _. p) (λ _. q)
-
-table_late : (v : Sight) → is_named v ≡ true → passes_eleven (table_case v) ≡ true
-unfolding table_case
-table_late v y =
-    cond_keeps (λ x. passes_eleven x ≡ true) (lacks_session v) NoSession _ (λ z. never z (rw y))
-    (λ _.
-    late (names_dead v) NotLive _ refl
-    (late (is_out_of_state v) State _ refl
-    (late (is_anothers v) NotOwner _ refl
-    (late (lacks_port v) Transport Passed refl refl))))
-
-case_late : (t : SatBox) (a : Asked) (l : Lists) → is_named (sight_of t a) ≡ true → passes_eleven (case_of t a l) ≡ true
-unfolding case_of
-case_late t a l y =
-    late (not (is_passed (table_case (sight_of t a)))) (table_case (sight_of t a)) _ (table_late (sight_of t a) y)
-    (late (merges (sight_of t a) && not (is_passed (merge_case (merging t a l).outcome))) (merge_case (merging t a l).outcome) _ (by (merging t a l).outcome)
-    (late (merges (sight_of t a) && (not (eqb a.stream 0) && is_unreached (sight_of t a))) NotReached _ refl
-    (late (is_opening (sight_of t a) && not (can_seat t (sight_of t a))) Full Passed refl refl)))
-  where
-    by : (o : Outcome) → passes_eleven (merge_case o) ≡ true
-    by Merged = refl
-    by Clash = refl
-    by TooMany = refl
 
 -- a Session header that names no open session is refused at step 11
 eleven_refuses : (t : SatBox) (a : Asked) (l : Lists) → is_named (sight_of t a) ≡ false → is_absent a.session ≡ false → case_of t a l ≡ NoSession
@@ -107,9 +77,6 @@ pub record LastAt (clock : ℕ) (old now : Session) : Type 0 where
   pub address : now.address ≡ old.address
   pub stream : now.stream ≡ old.stream
   pub owner : now.owner ≡ old.owner
-
-last_at : {clock port playing : ℕ} {old now : Session} → now ≡ but clock port playing old → LastAt clock old now
-last_at e = record { last = rw e; number = rw e; address = rw e; stream = rw e; owner = rw e }
 
 -- the place that an opening takes is free
 free_there : (l : List Session) → (get_or l (lowest_place l) no_session).number ≡ 0
@@ -178,7 +145,9 @@ module _ (s : List ℕ) (address draw : ℕ) (t : SatBox) where
       by : Test (is_named (sight_of t asked)) → Test (reading.is_read (request_refusal t.settings.frontends s)) → done.did ≡ nothing t
       by d (isnt m) = answered_still s address draw t unpassed ∙ rw m
       by (isnt m) (is y) = answered_still s address draw t unpassed ∙ rw (y, kept_alone asked t m)
-      by (is z) (is y) = never (eleven_passes (passed_is _ y) (seated_below asked t z)).passes n
+      by (is z) (is y) =
+          let p : passes_eleven done.case ≡ true = rw (answered_case s address draw t (passed_is _ y)) (case_late t asked (lists_of s) z) in
+          never p n
 
   -- REFUSED LATER it sets the last time of the session that it names, and this field alone: no port, nothing of playing, no stream, no record
   pub refused_sets_it_alone : is_passed done.case ≡ false → Names → done.did ≡ nothing (with_session place (but t.clock old.port old.playing old) t)
@@ -187,6 +156,9 @@ module _ (s : List ℕ) (address draw : ℕ) (t : SatBox) where
   -- "SETS ITS LAST TIME", whatever its method and its status: but for a TEARDOWN that is answered 200, which closes it
   pub sets_the_last_time : Names → Whole t → (method_of s ≡ Teardown → is_passed done.case ≡ true → ⊥) → LastAt t.clock old (session_at after place)
   sets_the_last_time h w stays = last_at (names_keeps s address draw t w (was_read h.passes) h.named stays).quietly.changes.session
+    where
+      last_at : {clock port playing : ℕ} {old now : Session} → now ≡ but clock port playing old → LastAt clock old now
+      last_at e = record { last = rw e; number = rw e; address = rw e; stream = rw e; owner = rw e }
 
   -- NO OTHER IS KEPT, not the owner of the stream either: every other session that is open before and after is as it was
   pub no_other_is_kept : Whole t → (i : ℕ) → (i ≡ place → ⊥) → ((session_at t i).number ≡ 0 → ⊥) → ((session_at after i).number ≡ 0 → ⊥) → session_at after i ≡ session_at t i
@@ -273,11 +245,11 @@ retuned_alike true place id m x y z t e = rw (set-set t.sessions place z x, map_
 retuned_alike false place id m x y z t e = rw (set-set t.sessions place z x, map_alike ageless t.sessions place x y e)
 
 module _ (a : Asked) (t : SatBox) where
-  kept_timeless : timeless (kept a t) ≡ timeless t
+  pub kept_timeless : timeless (kept a t) ≡ timeless t
   unfolding with_session
   kept_timeless = kept_by a t (λ u. timeless u ≡ timeless t) (λ y. rw (map-set_same ageless t.sessions (seat a t) (since a t) no_session refl)) (λ n. refl)
 
-  kept_ageless : ageless (sight_of (kept a t) a).session ≡ ageless (sight_of t a).session
+  pub kept_ageless : ageless (sight_of (kept a t) a).session ≡ ageless (sight_of t a).session
   unfolding sight_of
   kept_ageless = rw (kept_place a t a.session) (kept_session a t ageless (λ c x. refl) (seat a t))
 
@@ -291,7 +263,7 @@ module _ (a : Asked) (t : SatBox) where
     grant_unnamed n Other = ap (λ u. grant Other u a l client) (kept_alone a t n)
 
     -- a SETUP or a PLAY in a session
-    retuning_but : seat a t < 32 → ButLast (retuning (kept a t) a l) (retuning t a l)
+    pub retuning_but : seat a t < 32 → ButLast (retuning (kept a t) a l) (retuning t a l)
     unfolding sight_of
     retuning_but h =
         let x = seat_after (sight_of (kept a t) a) in
@@ -310,56 +282,16 @@ module _ (a : Asked) (t : SatBox) where
               ∙ retuned_alike (merges (sight_of t a)) (seat a t) id (merging t a l).stream x y (since a t) t e;
         }
 
-    grant_but : seat a t < 32 → (m : Method) → ButLast (grant m (kept a t) a l client) (grant_before m t a l client)
-    unfolding sight_of
-    grant_but h Options = record { case = refl; records = refl; session = kept_ageless; table = refl }
-    grant_but h Setup = rw (kept_is_named a t, lt-ltb (seat a t) 32 h) (retuning_but h)
-    grant_but h Play = retuning_but h
-    grant_but h Teardown =
-        let e = kept_closes a t 1 in
-        record { case = refl; records = ap (λ (d : Did). d.records) e; session = kept_ageless; table = ap (λ (d : Did). timeless d.satbox) e }
-    grant_but h Other = record { case = refl; records = refl; session = refl; table = kept_timeless }
-
-    served_unnamed : is_named (sight_of t a) ≡ false → served (kept a t) a l client ≡ served_before t a l client
+    pub served_unnamed : is_named (sight_of t a) ≡ false → served (kept a t) a l client ≡ served_before t a l client
     unfolding served served_before
     served_unnamed n = rw (case_kept a t l, grant_unnamed n a.method, kept_alone a t n)
-
-    served_but : ButLast (served (kept a t) a l client) (served_before t a l client)
-    unfolding served served_before sight_of
-    served_but = by (case (is_named (sight_of t a))) (case (is_passed (case_of t a l)))
-      where
-        by : Test (is_named (sight_of t a)) → Test (is_passed (case_of t a l)) → ButLast (served (kept a t) a l client) (served_before t a l client)
-        by (isnt n) c = rw (served_unnamed n) (record { case = refl; records = refl; session = refl; table = refl })
-        by (is z) (isnt n) = rw (case_kept a t l, n) (record { case = refl; records = refl; session = refl; table = kept_timeless })
-        by (is z) (is y) = rw (case_kept a t l, y) (grant_but (ltb-true (seat a t) 32 z) a.method)
 
     served_options : a.method ≡ Options → case_of t a l ≡ Passed → (served (kept a t) a l client).did ≡ (served_before t a l client).did
     unfolding served served_before
     served_options e p = rw (case_kept a t l, p) (subst (λ m. (grant m (kept a t) a l client).did ≡ (grant_before m t a l client).did) (sym e) refl)
 
--- no answer says a last time
-lines_ageless : (m : Method) (host : List ℕ) (x : Session) → granted_lines m host x ≡ granted_lines m host (ageless x)
-lines_ageless Options host x = refl
-lines_ageless Setup host x = refl
-lines_ageless Play host x = refl
-lines_ageless Teardown host x = refl
-lines_ageless Other host x = refl
-
-text_ageless : (c : Case) (s : List ℕ) (x : Session) → reply_text c s x ≡ reply_text c s (ageless x)
-unfolding reply_text
-text_ageless c s x = rw (lines_ageless (method_of s) (host_of (uri_of s)) x)
-
 -- AS BEFORE, of any request on any table that was swept
 module _ (s : List ℕ) (address draw : ℕ) where
-  -- the same case, and with it the same status, the same records, and the same table but for last times
-  pub answered_as_before : (t : SatBox) → ButLast (answered s address draw t) (answered_before s address draw t)
-  unfolding answered answered_before
-  answered_as_before t = by (case (reading.is_read (request_refusal t.settings.frontends s)))
-    where
-      by : Test (reading.is_read (request_refusal t.settings.frontends s)) → ButLast (answered s address draw t) (answered_before s address draw t)
-      by (is y) = rw y (served_but (asked s address draw t) t (lists_of s) (client_of address draw (asked s address draw t)))
-      by (isnt n) = rw n (record { case = refl; records = refl; session = refl; table = refl })
-
   -- a request that names no open session does what it did, whole
   pub unnamed_as_before : (t : SatBox) → (place s address draw t < 32 → ⊥) → answered s address draw t ≡ answered_before s address draw t
   unfolding answered answered_before sight_of
@@ -386,12 +318,3 @@ module _ (s : List ℕ) (address draw : ℕ) where
   -- and every answer is that of before, byte for byte
   abbrev pub answer_before : ℕ → SatBox → List ℕ
   answer_before clock t = let x = answered_before s address draw (sweeping clock t).satbox in reply_text x.case s x.session
-
-  pub answer_as_before : (clock : ℕ) (t : SatBox) → answer_of s clock address draw t ≡ answer_before clock t
-  unfolding answer_of requested
-  answer_as_before clock t =
-      let u = (sweeping clock t).satbox in
-      let e = answered_as_before u in
-      let x = answered s address draw u in
-      let y = answered_before s address draw u in
-      text_ageless x.case s x.session ∙ rw (e.case, e.session) (sym (text_ageless y.case s y.session))

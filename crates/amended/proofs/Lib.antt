@@ -1,5 +1,9 @@
 pub mod Reaching
+pub mod Choosing
 pub mod AsBefore
+pub mod Likewise
 pub mod Spellings
 pub mod Cseqs
+pub mod Eleven
 pub mod LastTimes
+pub mod Unchanged

@@ -1,6 +1,6 @@
--- ORDER 1 OF DOCUMENT 02, "Not every tuner sees every dish": what the choice of a frontend is, what a well_formed_law table says of the sources, and
--- that a box whose frontends reach all four is the box of document 01. Assumes nothing.
-use mathlib.Core.Path.{◌≡◌, refl, sym, ◌∙◌, ap}
+-- ORDER 1 OF DOCUMENT 02, "Not every tuner sees every dish": what the choice of a frontend is, what a well_formed_law table says of the sources, and what it
+-- is that a box's frontends reach all four; of the choice of every such table, and of every request to such a box, in `Choosing`. Assumes nothing.
+use mathlib.Core.Path.{◌≡◌, refl, ap}
 use mathlib.Core.Bool.{Bool, true, false, not, ◌&&◌, ◌||◌, or-true, and-true, and-false}
 use Prim.Native.Nat.{ℕ, zero, suc, ◌+◌, ◌≤◌, ◌<◌}
 use native.Mathlib.Omega.{arith}
@@ -16,23 +16,18 @@ use Rattle.table.specs.declared.Settings.{Settings}
 use Rattle.table.specs.declared.SatBox.{SatBox}
 use Rattle.table.proofs.Changes.{placed_at}
 use Rattle.finding.specs.Finding.{is_held, can_feed, size_at, fewest_from, choice}
-use Rattle.closings.proofs.Keeping.{Whole, frontends_few}
+use Rattle.closings.proofs.Keeping.{Whole}
 use Rattle.steps.specs.Sights.{Asked, Lists, sight_of}
-use Rattle.steps.specs.Steps.{is_passed, is_setup, is_named, looks_up, table_case}
+use Rattle.steps.specs.Steps.{is_passed, is_setup, is_named, table_case}
 use Rattle.steps.specs.declared.cases.Case.{Case}
 use Rattle.steps.specs.declared.cases.Case.TheVariants.{Passed, NotReached, Full}
 use Rattle.serving.specs.Serving.{source_of, merging, merges, merge_case, is_unreached, is_opening, can_seat, case_of}
-use Rattle.serving.proofs.Passing.{untested}
-use Rattle.aim.specs.Aim.{method_number}
-use Rattle.aim.specs.declared.Method.{Method}
-use Rattle.aim.specs.declared.Method.TheVariants.{Options, Setup, Play, Teardown, Other}
 use Rattle.stream.specs.declared.Outcome.TheVariants.{Merged}
 use Rattle.stream.specs.Values.{given}
 use Rattle.stream.specs.Streams.{is_sound}
 use Rattle.stream.specs.Arrays.{is_in_range, is_fit, are_fit}
 use Rattle.stream.proofs.Soundness.{sound_live}
 use Rattle.table.proofs.Rules.{placed_sound}
-use Rattle.steps.proofs.ReplyLaws.{unread_passed, table_unread}
 
 -- a free frontend of the box that reaches the source
 pub record Fits (t : SatBox) (source f : ℕ) : Type 0 where
@@ -128,7 +123,7 @@ module _ (t : SatBox) (source : ℕ) where
 
   -- THE CHOICE IS THAT ONE, where there is one, and 0 where there is none
   module _ (few : t.settings.frontends ≤ 8) where
-    choice_is : (choice t source ≡ 0 → ⊥) → IsChoice t source (choice t source)
+    pub choice_is : (choice t source ≡ 0 → ⊥) → IsChoice t source (choice t source)
     unfolding choice
     choice_is some =
         let r = chosen 8 1 (omega arith) in
@@ -138,22 +133,9 @@ module _ (t : SatBox) (source : ℕ) where
           lowest = λ g e. r.lowest g e.low (omega (arith, e.high)) (fits_feeds t source g e);
         }
 
-    choice_none : choice t source ≡ 0 → (g : ℕ) → Fits t source g → ⊥
+    pub choice_none : choice t source ≡ 0 → (g : ℕ) → Fits t source g → ⊥
     unfolding choice
     choice_none z g e = never (fits_feeds t source g e) ((chosen 8 1 (omega arith)).none z g e.low (omega (arith, e.high)))
-
--- THE CHOICE: where a free frontend reaches the src, the one that is chosen is free and reaches it, no other such has a smaller set, and none of
--- equal size a lower number; where none does, none is chosen
-module _ (t : SatBox) (w : Whole t) (source : ℕ) where
-  pub choice_is_that : (g : ℕ) → Fits t source g → IsChoice t source (choice t source)
-  choice_is_that g e = choice_is t source (frontends_few t w) (λ z. choice_none t source (frontends_few t w) z g e)
-
-  pub none_is_chosen : ((g : ℕ) → Fits t source g → ⊥) → choice t source ≡ 0
-  none_is_chosen h = by (sames (choice t source) 0)
-    where
-      by : Same (choice t source) 0 → choice t source ≡ 0
-      by (same z) = z
-      by (other z) = absurd (h (choice t source) (choice_is t source (frontends_few t w) z).fits)
 
 -- "each stream's frontend reaches its src"
 pub stream_reached : (t : SatBox) → Whole t → (id : ℕ) → ((stream_of t id).frontend ≡ 0 → ⊥) → has_source (set_of t.settings (stream_of t id).frontend) (stream_of t id).values.src ≡ true
@@ -224,17 +206,6 @@ module _ (t : SatBox) (all : AllReach t.settings) (source : ℕ) (low : 1 ≤ so
           rw (all.full f (leb-true _ _ b.0) (leb-true _ _ b.1), full_has source low high, and-true (not (is_held f t.streams)))
       by (isnt n) = rw n
 
-  -- and "the lowest free frontend" is taken: it is free, and none that is free is lower
-  module _ (w : Whole t) where
-    pub lowest_free_taken : (g : ℕ) → is_free_frontend t g ≡ true → (is_free_frontend t (choice t source) ≡ true) × (choice t source ≤ g)
-    lowest_free_taken g e =
-        let x = feeds_fits t source g (feeds_if_free g ∙ e) in
-        let c = choice_is_that t w source g x in
-        (sym (feeds_if_free (choice t source)) ∙ fits_feeds t source (choice t source) c.fits, c.lowest g x (ap size_of (size x ∙ sym (size c.fits))))
-      where
-        size : {f : ℕ} → Fits t source f → set_of t.settings f ≡ 15
-        size {f} y = all.full f y.low y.high
-
 -- STEPS 11 TO 18 WITHOUT A SRC AT 17, as document 01 has them
 unfoldable pub case_without : SatBox → Asked → Lists → Case
 case_without t a l =
@@ -273,32 +244,3 @@ module _ (t : SatBox) (w : Whole t) (all : AllReach t.settings) (a : Asked) (fit
           let sound = placed_sound t.settings m (placed_at t.settings t.streams w.formed.rows a.stream) in
           let high = (sound_live t.settings.frontends m sound live).within in
           rw (all.full m.frontend (omega (arith, live)) high, full_has (get_or a.codes 0 0) r.0 r.1, and-false (not (eqb (get_or a.codes 0 0) 0)))
-
-  looked_up : (m : Method) → eqb (method_number m) 1 || eqb (method_number m) 2 ≡ true → looks_up m ≡ true
-  looked_up Options k = never k refl
-  looked_up Setup k = refl
-  looked_up Play k = refl
-  looked_up Teardown k = never k refl
-  looked_up Other k = never k refl
-
-  -- a stream whose owner's query is merged is live: 12
-  live_merged : merges (sight_of t a) ≡ true → table_case (sight_of t a) ≡ Passed → (a.stream ≡ 0 → ⊥) → (stream_of t a.stream).frontend ≡ 0 → ⊥
-  unfolding sight_of
-  live_merged m p z q =
-      never (rw (looked_up a.method (and_both (eqb (method_number a.method) 1 || eqb (method_number a.method) 2) _ m).0, ne_eqb a.stream 0 z, eq-eqb (stream_of t a.stream).frontend 0 q)) (untested (sight_of t a) p).stream
-
-  -- so that the line of step 17 is not missed
-  pub case_without_law : (l : Lists) → case_of t a l ≡ case_without t a l
-  unfolding case_of case_without
-  case_without_law l = by (case (is_passed (table_case (sight_of t a))))
-    where
-      silent : table_case (sight_of t a) ≡ Passed → Test (merges (sight_of t a)) → Same a.stream 0 → (merges (sight_of t a) && (not (eqb a.stream 0) && is_unreached (sight_of t a))) ≡ false
-      silent p (isnt n) c = rw n
-      silent p (is m) (same z) = rw (m, z)
-      silent p (is m) (other z) = rw (m, src_is_reached (live_merged m p z), and-false (not (eqb a.stream 0)))
-
-      by : Test (is_passed (table_case (sight_of t a))) → case_of t a l ≡ case_without t a l
-      by (isnt n) = rw n
-      by (is y) =
-          let p = unread_passed (table_case (sight_of t a)) (table_unread (sight_of t a)) y in
-          rw (silent p (case _) (sames _ 0))

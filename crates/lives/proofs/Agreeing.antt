@@ -16,7 +16,8 @@ use Rattle.satbox.specs.Calls.{emptied}
 use Rattle.serving.specs.Serving.{with_session}
 use Rattle.serving.proofs.Kept.{Alike}
 use Rattle.lives.specs.Audit.{unheld, noted_by, audited, holds, Agree}
-use Rattle.lives.proofs.Keepers.{audited_more, noted_none, noted_others, closed_keeps, closed_kept, closed_kept_others, freed_keeps, fed_keeps, alike_keeps, is_holder, keeps}
+use Rattle.lives.proofs.Keepers.{audited_more, noted_none, noted_others, fed_keeps, alike_keeps, is_holder, keeps}
+use Rattle.lives.proofs.Releasing.{closed_keeps, closed_kept, closed_kept_others, freed_keeps}
 
 -- no two open sessions have one number
 abbrev pub Single : SatBox → Type 0

@@ -17,7 +17,7 @@ use Rattle.closings.proofs.Closings.{free, closable, close_one_fine}
 use Rattle.closings.proofs.Keeping.{Whole, whole_roomy, sweep_at_whole, clock_whole}
 use Rattle.closings.proofs.Runs.{upto_holds}
 use Rattle.lives.specs.Audit.{Agree, clocked, restream, closes, Leads, begun, quiet, noted}
-use Rattle.lives.proofs.Fates.{gone}
+use Rattle.lives.proofs.Departures.{gone}
 use Rattle.lives.proofs.Agreeing.{Single, agree_closed, agree_freed, agree_clock}
 
 -- the end of a chain agrees, and another may follow it

@@ -43,14 +43,16 @@ use Rattle.closings.proofs.Keeping.{Whole, clock_whole}
 use Rattle.serving.proofs.Kept.{kept_alone}
 use Rattle.satbox.proofs.Kept.{sweeping_whole}
 use Rattle.promises.proofs.Requests.{answered_by, answered_still}
-use Rattle.promises.proofs.Methods.{Changes, options_alone, other_alone, play_marks, setup_joins, setup_opens}
+use Rattle.promises.proofs.Retuning.{Changes}
+use Rattle.promises.proofs.Methods.{options_alone, other_alone, play_marks, setup_joins, setup_opens}
 use Rattle.promises.proofs.Naming.{names_keeps}
 use Rattle.lives.specs.Calls.{lent, Call, request, tick, collect, order, is_call, Life, live, run, records_of}
 use Rattle.lives.specs.Closed.{is_closing_of, Fares, remains, closed, place_named_by, KeepsAlive, naming}
 use Rattle.lives.proofs.Settings.{sweeping_set, requested_set}
 use Rattle.lives.proofs.Holding.{Good}
 use Rattle.lives.proofs.Running.{live_good}
-use Rattle.lives.proofs.Fates.{Fate, stays, leaves, any_left, any_right, closing_fates, is_closing}
+use Rattle.lives.proofs.Fates.{Fate, stays, leaves, any_left, any_right, is_closing}
+use Rattle.lives.proofs.Departures.{closing_fates}
 use Rattle.lives.proofs.Sweeps.{swept_fates}
 use Rattle.lives.proofs.Keepers.{any_less}
 use Rattle.lives.proofs.Young.{Young, run_young}

@@ -40,7 +40,7 @@ use Rattle.closings.proofs.Leaving.{leaving, joiner_records, owner_records}
 use Rattle.closings.proofs.Runs.{upto_holds}
 use Rattle.satbox.proofs.Kept.{sweeping_whole}
 use Rattle.serving.proofs.Passing.{named_closable}
-use Rattle.promises.proofs.Methods.{Changes, but}
+use Rattle.promises.proofs.Retuning.{Changes, but}
 use Rattle.promises.proofs.Naming.{Keeps, names_keeps}
 use Rattle.lives.specs.Calls.{Lent, lent, Call, request, tick, collect, order, is_call, Life, live, run, records_of}
 use Rattle.lives.specs.Closed.{is_time_out, Fares, place_named_by, TearsDown, in_teardown}
@@ -50,7 +50,8 @@ use Rattle.lives.proofs.Fitting.{all_both}
 use Rattle.lives.proofs.Holding.{Good}
 use Rattle.lives.proofs.Running.{live_good}
 use Rattle.lives.proofs.Faring.{run_fares}
-use Rattle.lives.proofs.Fates.{Fate, stays, leaves, closing_fates}
+use Rattle.lives.proofs.Fates.{Fate, stays, leaves}
+use Rattle.lives.proofs.Departures.{closing_fates}
 use Rattle.lives.proofs.Teardowns.{Tearing, tearing, not_tearing, whether_tearing, answered_torn, torn_closed}
 
 -- whoever has the number n was heard of at c or later

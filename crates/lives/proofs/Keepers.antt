@@ -1,8 +1,9 @@
--- Who holds which frontend in a table, and what each change of the sessions and the streams does to that. Assumes nothing.
+-- Who holds which frontend in a table, and what each change of the sessions and the streams does to that: of a closing, and of a stream that is freed, `Releasing`
+-- says it. Assumes nothing.
 use mathlib.Core.Path.{◌≡◌, refl, sym, ◌∙◌, ap, subst}
 use mathlib.Core.Bool.{Bool, true, false, cond, ◌&&◌, ◌||◌, and-false}
 use mathlib.Core.List.{List, [], ◌∷◌, ◌++◌, foldl}
-use Prim.Native.Nat.{ℕ, zero, suc, ◌≤◌, ◌<◌}
+use Prim.Native.Nat.{ℕ, zero, suc, ◌<◌}
 use native.Mathlib.Omega.{arith}
 use lib.Dec.{eqb}
 use lib.ListN.{length, get_or, set}
@@ -11,12 +12,12 @@ use Rattle.scan.proofs.Bools.{never, and_both, Case, is, isnt, case, Same, same,
 use Rattle.journal.specs.declared.Record.{Record}
 use Rattle.stream.specs.Streams.{past_stream}
 use Rattle.stream.specs.declared.Stream.{Stream}
-use Rattle.table.specs.Table.{any, count, no_session, has_number, with_stream, is_on, owns}
+use Rattle.table.specs.Table.{any, no_session, has_number, with_stream, is_on, owns}
 use Rattle.table.proofs.Ids.{stream_in}
 use Rattle.table.specs.declared.Session.{Session}
-use Rattle.table.proofs.Counts.{bit_no, bit_yes, count_set, count_zero_at, none_count, get_d_set_alike}
+use Rattle.table.proofs.Counts.{get_d_set_alike}
 use Rattle.serving.proofs.Kept.{Alike}
-use Rattle.promises.proofs.Methods.{stream_other}
+use Rattle.promises.proofs.Retuning.{stream_other}
 use Rattle.lives.specs.Audit.{Frontend, unheld, held_by, let_go, is_held_by, closed_by, noted_by}
 
 -- SOME ELEMENT PASSES, after one is set
@@ -109,45 +110,21 @@ noted_joined f r e a =
     (λ y. k ∙ joined_still r e a) (λ y. refl)
 
 -- OF THE LISTS: who keeps a frontend has its number, and owns his stream
-keeps_has : (ms : List Stream) (f n : ℕ) (s : Session) → keeps ms f n s ≡ true → has_number n s ≡ true
+pub keeps_has : (ms : List Stream) (f n : ℕ) (s : Session) → keeps ms f n s ≡ true → has_number n s ≡ true
 keeps_has ms f n s e = (and_both (has_number n s) _ (and_both (owns s.stream s) _ e).1).0
 
-keeps_other : (ms : List Stream) (f n : ℕ) (s : Session) → has_number n s ≡ false → keeps ms f n s ≡ false
+pub keeps_other : (ms : List Stream) (f n : ℕ) (s : Session) → has_number n s ≡ false → keeps ms f n s ≡ false
 keeps_other ms f n s e = rw e (and-false (owns s.stream s))
 
 pub keeps_feed : (ms : List Stream) (f n : ℕ) (s : Session) → ((stream_in ms s.stream).frontend ≡ f → ⊥) → keeps ms f n s ≡ false
 keeps_feed ms f n s h = rw (ne_eqb (stream_in ms s.stream).frontend f h, and-false (has_number n s), and-false (owns s.stream s))
 
--- ONE CLOSES, whose number no other has
-module _ (ms : List Stream) (l : List Session) (i : ℕ) (h : i < length l) (some : (get_or l i no_session).number ≡ 0 → ⊥) (once : count (has_number (get_or l i no_session).number) l ≤ 1) (f : ℕ) where
-  pub closed_keeps : any (keeps ms f (get_or l i no_session).number) (set l i no_session) ≡ false
-  closed_keeps =
-      let n = (get_or l i no_session).number in
-      let c = count_set (has_number n) l i no_session no_session h in
-      let z : count (has_number n) (set l i no_session) ≡ 0 = omega (arith, c, bit_yes (eq-eqb n n refl), bit_no (ne_eqb 0 n (λ q. some (sym q)))) in
-      any_less (keeps ms f n) (has_number n) (keeps_has ms f n) (set l i no_session) (none_count (has_number n) (set l i no_session) z)
-
-  -- it kept no frontend but its stream's
-  pub closed_kept : ((stream_in ms (get_or l i no_session).stream).frontend ≡ f → ⊥) → any (keeps ms f (get_or l i no_session).number) l ≡ false
-  closed_kept g =
-      let n = (get_or l i no_session).number in
-      sym (any_set_same (keeps ms f n) l i no_session no_session (sym (keeps_feed ms f n (get_or l i no_session) g))) ∙ closed_keeps
-
-  pub closed_kept_others : (n : ℕ) → ((get_or l i no_session).number ≡ n → ⊥) → any (keeps ms f n) (set l i no_session) ≡ any (keeps ms f n) l
-  closed_kept_others n g =
-      any_set_same (keeps ms f n) l i no_session no_session (sym (keeps_other ms f n (get_or l i no_session) (ne_eqb (get_or l i no_session).number n g)))
-
 -- A STREAM CHANGES that nobody is on
-off_keeps : (ms : List Stream) (id : ℕ) (m : Stream) (f n : ℕ) (s : Session) → is_on id s ≡ false → Case (owns s.stream s) → keeps (with_stream id m ms) f n s ≡ keeps ms f n s
+pub off_keeps : (ms : List Stream) (id : ℕ) (m : Stream) (f n : ℕ) (s : Session) → is_on id s ≡ false → Case (owns s.stream s) → keeps (with_stream id m ms) f n s ≡ keeps ms f n s
 off_keeps ms id m f n s off (isnt z) = rw z
 off_keeps ms id m f n s off (is z) =
     let away : s.stream ≡ id → ⊥ = λ q. never (subst (λ k. is_on k s ≡ true) q (and_both (is_on s.stream s) _ z).0) off in
     ap (λ (x : Stream). owns s.stream s && (has_number n s && eqb x.frontend f)) (stream_other id s.stream m ms away)
-
-pub freed_keeps : (ms : List Stream) (id : ℕ) (m : Stream) (l : List Session) → count (is_on id) l ≡ 0 → (f n : ℕ) → any (keeps (with_stream id m ms) f n) l ≡ any (keeps ms f n) l
-freed_keeps ms id m l none f n =
-    any_alike (keeps (with_stream id m ms) f n) (keeps ms f n) l no_session
-    (λ i. off_keeps ms id m f n (get_or l i no_session) (count_zero_at (is_on id) l i no_session refl none) (case _))
 
 -- A STREAM CHANGES, but keeps its frontend
 with_feed : (ms : List Stream) (id : ℕ) (m : Stream) → m.frontend ≡ (stream_in ms id).frontend → (k : ℕ) → (stream_in (with_stream id m ms) k).frontend ≡ (stream_in ms k).frontend

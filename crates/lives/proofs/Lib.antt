@@ -7,6 +7,7 @@ pub mod Running
 pub mod Refusals
 pub mod Rooms
 pub mod Fates
+pub mod Departures
 pub mod Taking
 pub mod Visits
 pub mod Sweeps
@@ -15,6 +16,7 @@ pub mod Hearing
 pub mod Teardowns
 pub mod InCalls
 pub mod Keepers
+pub mod Releasing
 pub mod Faring
 pub mod Agreeing
 pub mod Seating

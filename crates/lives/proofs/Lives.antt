@@ -78,9 +78,9 @@ module _ (settings : Settings) (j : List ℕ) (cs : List Call) where
     pub settings_stay : x.satbox.settings ≡ settings
     settings_stay = (after_good h).set
 
-    -- order 1: so a box whose frontends reach all four stays one, and is document 01's in every call (`amended/proofs/AsBefore`)
+    -- order 1: so a box whose frontends reach all four stays one, and is document 01's in every call (`amended/proofs/Likewise`)
     pub all_reach_stays : AllReach settings → AllReach x.satbox.settings
-    all_reach_stays = subst AllReach (sym settings_stay)
+    all_reach_stays = subst AllReach (sym (after_good h).set)
 
     -- 2. THE JOURNAL'S FIRST BYTES HELD ARE EXACTLY THE RECORDS, in order, of the openings and closings since the last collection: `since`, which
     -- the rules give for each call (`records`) and which is not read off the bytes held; their bytes are `bytes_of`,

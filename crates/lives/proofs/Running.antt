@@ -22,7 +22,8 @@ use Rattle.satbox.proofs.Kept.{sweeping_whole, collect_whole}
 use Rattle.serving.proofs.RecordLaws.{swept_numbered}
 use Rattle.serving.proofs.Recorded.{swept_recorded}
 use Rattle.promises.proofs.Reading.{request_whole, request_recorded}
-use Rattle.promises.proofs.Written.{Counted, requested_counted}
+use Rattle.promises.proofs.Written.{Counted}
+use Rattle.promises.proofs.Counting.{requested_counted}
 use Rattle.lives.specs.Calls.{own, other, Call, request, tick, collect, order, is_short, is_lent, is_call, Life, live, run, Lives, life_after}
 use Rattle.lives.proofs.Settings.{sweeping_set, requested_set}
 use Rattle.lives.proofs.Holding.{Good, sized, born_good, Works, worked, emptied_into, same_good, worked_good, collected_good}

@@ -12,7 +12,8 @@ use Rattle.table.proofs.Changes.{opened}
 use Rattle.closings.specs.Closing.{Did, is_expired, swept}
 use Rattle.closings.proofs.Keeping.{Whole}
 use Rattle.lives.specs.Closed.{Closed}
-use Rattle.lives.proofs.Fates.{Fate, stays, leaves, Fates, noted_as, upto_fates}
+use Rattle.lives.proofs.Fates.{Fate, stays, leaves, Fates, noted_as}
+use Rattle.lives.proofs.Departures.{upto_fates}
 use Rattle.lives.proofs.Taking.{takes_self, takes_on}
 use Rattle.lives.proofs.Visits.{swept_gone}
 

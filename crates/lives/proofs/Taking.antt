@@ -23,7 +23,8 @@ use Rattle.closings.specs.Does.{Closable}
 use Rattle.closings.proofs.Closings.{free}
 use Rattle.closings.proofs.Keeping.{Whole, owner_sessions, owner_streams}
 use Rattle.lives.specs.Closed.{takes, closing_of, unnumbered, in_order, closings_at}
-use Rattle.promises.proofs.Methods.{stream_other, get_d_clear}
+use Rattle.promises.proofs.Retuning.{stream_other}
+use Rattle.promises.proofs.Methods.{get_d_clear}
 use Rattle.lives.proofs.Fates.{off_stream}
 
 -- OF LISTS: what passes a test that the default fails is in the list, and the first that passes is not past it

@@ -27,7 +27,7 @@ use Rattle.promises.proofs.Passing.{served_by, tears_closable}
 use Rattle.promises.proofs.Requests.{answered_by}
 use Rattle.promises.proofs.Records.{closed_is}
 use Rattle.lives.specs.Closed.{takes, Closed, place_named_by}
-use Rattle.lives.proofs.Fates.{closing_fates}
+use Rattle.lives.proofs.Departures.{closing_fates}
 use Rattle.lives.proofs.Taking.{takes_self, takes_on, closing_took}
 use Rattle.lives.proofs.Sweeps.{freed_closed}
 

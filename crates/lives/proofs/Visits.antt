@@ -20,7 +20,7 @@ use Rattle.closings.proofs.Closings.{closable}
 use Rattle.closings.proofs.Keeping.{Whole, whole_roomy, sweep_at_whole}
 use Rattle.closings.proofs.Runs.{upto_keeps}
 use Rattle.lives.specs.Closed.{takes, visit_of, closing_of, unnumbered, in_order, closings_at, sweep_closings}
-use Rattle.lives.proofs.Fates.{upto_fates}
+use Rattle.lives.proofs.Departures.{upto_fates}
 use Rattle.lives.proofs.Taking.{within, first_least, order_same, takes_self, one_number, one_owner, Took, closing_took, Taken, self, along, taken, taken_open, taken_none}
 
 later : (v n : ℕ) → (v ≡ n → ⊥) → ltb v (suc n) ≡ ltb v n

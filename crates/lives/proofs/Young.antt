@@ -31,7 +31,8 @@ use Rattle.lives.proofs.Settings.{sweeping_set, requested_set}
 use Rattle.lives.proofs.Holding.{Good, born_good}
 use Rattle.lives.proofs.Running.{live_good}
 use Rattle.lives.proofs.ReadingBack.{free_place}
-use Rattle.lives.proofs.Fates.{aged_after, closing_fates}
+use Rattle.lives.proofs.Fates.{aged_after}
+use Rattle.lives.proofs.Departures.{closing_fates}
 use Rattle.lives.proofs.Visits.{none_expired}
 
 -- at a clock nothing that is open in the table has expired

@@ -1,51 +1,30 @@
 -- WHO IS NOT REFUSED. A request that steps 1 to 10 let through, and that names an open session, is answered 200 where it is an OPTIONS, whatever stream it
 -- names, and where it is a TEARDOWN of that session's stream; what they then do is said in `Methods`. And document 01's answer text by examples: what each
 -- method is answered on 200, the refusals that carry a line more, and each step that P1 to P11 do not try. Assumes nothing.
-use mathlib.Core.Path.{◌≡◌, refl, sym, ◌∙◌, ap, subst}
-use mathlib.Core.Bool.{Bool, true, false, not, ◌&&◌}
+use mathlib.Core.Path.{◌≡◌, refl, sym, ◌∙◌, ap}
 use mathlib.Core.List.{List, [], ◌∷◌}
 use Prim.Native.Nat.{ℕ, ◌<◌}
-use lib.Dec.{ltb}
-use lib.ListN.{length, get_or, replicate}
-use borrow.Author.Tests.{lt-ltb, eq-eqb, ne_eqb}
-use Rattle.scan.proofs.Bools.{never, Case as Test, is, isnt, case}
+use lib.ListN.{replicate}
 use Rattle.scan.specs.Text.{text, ◌&◌}
-use Rattle.target.specs.Uri.{is_uri, has_query}
-use Rattle.aim.specs.Aim.{uri_refusal}
-use Rattle.aim.specs.Found.{takes_no_query}
-use Rattle.refusals.specs.Refusals as reading
 use Rattle.aim.specs.declared.Method.TheVariants.{Options, Teardown}
-use Rattle.refusals.specs.declared.Refusal.{Refusal}
 use Rattle.refusals.specs.declared.Refusal.TheVariants as refusal
-use Rattle.reader.specs.Request.{method_of, uri_of, head_refusal, request_refusal}
-use Rattle.stream.specs.Streams.{past_stream}
+use Rattle.reader.specs.Request.{method_of, request_refusal}
 use Rattle.stream.specs.Values.{are_complete}
 use Rattle.table.specs.Table.{session_at, stream_of}
 use Rattle.table.specs.declared.SatBox.{SatBox}
-use Rattle.table.proofs.Changes.{seated_live}
-use Rattle.steps.specs.Sights.{Asked, codes_in, asked_of, lists_of, place_named, sight_of}
-use Rattle.steps.specs.Steps.{table_case}
+use Rattle.steps.specs.Sights.{Asked, asked_of, lists_of, place_named, sight_of}
 use Rattle.steps.specs.declared.cases.Case.TheVariants.{Passed}
 use Rattle.serving.specs.Serving.{Serving, served, client_of, answered}
 use Rattle.satbox.specs.Calls.{answer_of}
 use Rattle.orders.specs.Orders.{order_at, order_for}
 use Rattle.orders.specs.declared.Ordered.TheVariants.{On, Off}
 use Rattle.closings.proofs.Keeping.{Whole}
-use Rattle.serving.proofs.Passing.{named_closable}
 use Rattle.serving.proofs.ServingLaws.{options_granted}
 use Rattle.serving.proofs.Branching.{tears_down}
 use Rattle.promises.proofs.Keeps.{served_case, answered_case}
 use Rattle.promises.proofs.Asks.{example, box, home, verdict, ask, after}
 use Rattle.promises.proofs.Edges.{meanings}
-use Rattle.scan.specs.Lists.{◌gives◌or◌}
-use Rattle.aim.specs.Query.{text_in, code_in}
-use Rattle.aim.proofs.AimLaws.{unqueried}
-use Rattle.tuning.proofs.Words.{value_none}
-
--- what no refusal of a chain stops
-goes_on : (b : Bool) (c d : Refusal) → reading.is_read c ≡ false → (b gives c or d) ≡ refusal.Passed → (b ≡ false) × (d ≡ refusal.Passed)
-goes_on true c d n e = never (ap reading.is_read e) n
-goes_on false c d n e = (refl, e)
+use Rattle.promises.proofs.LetThrough.{options_table, teardown_table}
 
 module _ (s : List ℕ) (address draw : ℕ) (t : SatBox) (read : request_refusal t.settings.frontends s ≡ refusal.Passed) where
   abbrev a : Asked
@@ -54,72 +33,23 @@ module _ (s : List ℕ) (address draw : ℕ) (t : SatBox) (read : request_refusa
   abbrev place : ℕ
   place = place_named a.session t
 
-  -- step 8: an OPTIONS and a TEARDOWN have no query
-  uri_read : uri_refusal t.settings.frontends (method_of s) (uri_of s) ≡ refusal.Passed
-  unfolding request_refusal
-  uri_read = by (case (reading.is_read (head_refusal s)))
-    where
-      by : Test (reading.is_read (head_refusal s)) → uri_refusal t.settings.frontends (method_of s) (uri_of s) ≡ refusal.Passed
-      by (is y) = rw y at read
-      by (isnt n) = never (ap reading.is_read (rw n at read)) n
-
-  untaken : has_query (uri_of s) && takes_no_query (method_of s) ≡ false
-  unfolding uri_refusal
-  untaken =
-      let long = goes_on (ltb 1024 (length (uri_of s))) refusal.UriLong _ refl uri_read in
-      let form = goes_on (not (is_uri (uri_of s))) refusal.UriForm _ refl long.1 in
-      (goes_on (has_query (uri_of s) && takes_no_query (method_of s)) refusal.QueryUntaken _ refl form.1).0
-
-  module _ (takes : takes_no_query (method_of s) ≡ true) where
-    unasked : has_query (uri_of s) ≡ false
-    unasked = by (case (has_query (uri_of s)))
-      where
-        by : Test (has_query (uri_of s)) → has_query (uri_of s) ≡ false
-        by (is y) = never refl (rw (y, takes) at untaken)
-        by (isnt n) = n
-
-    no_query : a.query ≡ false
-    no_query = rw (unqueried (uri_of s) unasked)
-
-    no_fe : get_or a.codes 1 0 ≡ 0
-    unfolding codes_in code_in text_in
-    no_fe = rw (unasked, value_none t.settings.frontends 1)
-
   passes : (served t a (lists_of s) (client_of address draw a)).case ≡ Passed → (answered s address draw t).case ≡ Passed
   passes e = answered_case s address draw t read ∙ sym (served_case t a (lists_of s) (client_of address draw a)) ∙ e
 
   module _ (named : place < 32) where
     -- OPTIONS
     module _ (options : method_of s ≡ Options) where
-      options_table : table_case (sight_of t a) ≡ Passed
-      unfolding table_case sight_of
-      options_table = rw (options, lt-ltb place 32 named, no_query (rw options))
-
       pub options_passes : (answered s address draw t).case ≡ Passed
       unfolding sight_of
       options_passes =
-          passes (ap (λ (x : Serving). x.case) (options_granted t a (lists_of s) refl options_table options (client_of address draw a)))
+          passes (ap (λ (x : Serving). x.case) (options_granted t a (lists_of s) refl (options_table s address draw t read named options) options (client_of address draw a)))
 
     -- TEARDOWN of the session's own stream, on a well_formed_law table
     module _ (w : Whole t) (teardown : method_of s ≡ Teardown) (own : a.stream ≡ (session_at t place).stream) where
-      live : (stream_of t a.stream).frontend ≡ 0 → ⊥
-      unfolding sight_of
-      live z =
-          seated_live t.sessions (past_stream ∷ t.streams) w.formed.seats place
-          (named_closable t w a (sight_of t a) refl (lt-ltb place 32 named)).some (subst (λ k. (stream_of t k).frontend ≡ 0) own z)
-
-      some : a.stream ≡ 0 → ⊥
-      some z = live (ap (λ k. (stream_of t k).frontend) z)
-
-      teardown_table : table_case (sight_of t a) ≡ Passed
-      unfolding table_case sight_of
-      teardown_table =
-          rw (teardown, lt-ltb place 32 named, ne_eqb a.stream 0 some, ne_eqb (stream_of t a.stream).frontend 0 live, eq-eqb a.stream (session_at t place).stream own, no_fe (rw teardown), no_query (rw teardown))
-
       pub teardown_passes : (answered s address draw t).case ≡ Passed
       unfolding sight_of
       teardown_passes =
-          passes (ap (λ (x : Serving). x.case) (tears_down t a (lists_of s) (client_of address draw a) (sight_of t a) refl teardown_table teardown))
+          passes (ap (λ (x : Serving). x.case) (tears_down t a (lists_of s) (client_of address draw a) (sight_of t a) refl (teardown_table s address draw t read named w teardown own) teardown))
 
 -- on the box after document 01's example, whose session 1 owns stream 1 and does not play: what a request is answered at clock 0 with draw 1
 abbrev opened : SatBox

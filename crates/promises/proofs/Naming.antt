@@ -16,7 +16,8 @@ use Rattle.steps.specs.Sights.{asked_of, place_named}
 use Rattle.steps.specs.Steps.{is_passed}
 use Rattle.serving.specs.Serving.{answered}
 use Rattle.closings.proofs.Keeping.{Whole}
-use Rattle.promises.proofs.Methods.{Quietly, but, keeps, refused_keeps, options_refreshes, other_alone, setup_replaces, play_marks}
+use Rattle.promises.proofs.Retuning.{Quietly, but}
+use Rattle.promises.proofs.Methods.{keeps, refused_keeps, options_refreshes, other_alone, setup_replaces, play_marks}
 
 -- in u the session at a place has t's clock for its last time, with some port, playing or not, and some stream; every other is as it was, and nothing is
 -- written

@@ -169,10 +169,10 @@ module _ (s : List ℕ) (address draw : ℕ) (t : SatBox) where
     served_passed = subst (λ (x : Serving). is_passed x.case ≡ true) same passed
 
     -- one that names no session comes to the table as it was
-    alone : is_named (sight_of t asks) ≡ false → answered s address draw t ≡ served t asks (lists_of s) (client_of address draw asks)
+    pub alone : is_named (sight_of t asks) ≡ false → answered s address draw t ≡ served t asks (lists_of s) (client_of address draw asks)
     alone stranger = same ∙ ap (λ k. served k asks (lists_of s) (client_of address draw asks)) (kept_alone asks t stranger)
 
-    alone_passed : is_named (sight_of t asks) ≡ false → is_passed (served t asks (lists_of s) (client_of address draw asks)).case ≡ true
+    pub alone_passed : is_named (sight_of t asks) ≡ false → is_passed (served t asks (lists_of s) (client_of address draw asks)).case ≡ true
     alone_passed stranger = subst (λ (x : Serving). is_passed x.case ≡ true) (alone stranger) passed
 
     pub answered_joined : method_of s ≡ Setup → is_named (sight_of t asks) ≡ false → (asks.stream ≡ 0 → ⊥)
@@ -181,12 +181,6 @@ module _ (s : List ℕ) (address draw : ℕ) (t : SatBox) where
     answered_joined setup stranger some =
         subst (λ (x : Serving). x.did.records ≡ opens_as 2 x.session (stream_of t asks.stream).frontend t ∷ []) (sym (alone stranger))
         (joined_records t asks (lists_of s) (client_of address draw asks) (alone_passed stranger) setup stranger some)
-
-    pub answered_opened : method_of s ≡ Setup → is_named (sight_of t asks) ≡ false → asks.stream ≡ 0 → Whole t
-        → (answered s address draw t).did.records ≡ opens_as 1 (answered s address draw t).session (feed t asks) t ∷ []
-    answered_opened setup stranger none w =
-        subst (λ (x : Serving). x.did.records ≡ opens_as 1 x.session (feed t asks) t ∷ []) (sym (alone stranger))
-        (opened_records t asks (lists_of s) (client_of address draw asks) (alone_passed stranger) setup stranger none w)
 
     pub answered_closed : method_of s ≡ Teardown → (answered s address draw t).did.records ≡ (closing 1 (sight_of t asks).place t).records
     answered_closed e =

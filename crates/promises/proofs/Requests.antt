@@ -1,8 +1,8 @@
--- A request keeps a table well formed, whatever its bytes are; and one whose status is not 200 does no more than the sweep before it and, where it
--- passes step 11, set the last time of the session that it names. Assumes nothing.
-use mathlib.Core.Path.{◌≡◌, refl, ap}
+-- A request keeps a table well formed, whatever its bytes are; and steps 1 to 18 of one whose status is not 200 do no more than, where it passes step 11, set the
+-- last time of the session that it names (`Still` says it with the sweep before them). Assumes nothing.
+use mathlib.Core.Path.{◌≡◌, refl}
 use mathlib.Core.Bool.{false, cond}
-use mathlib.Core.List.{List, append-nil}
+use mathlib.Core.List.{List}
 use Prim.Native.Nat.{ℕ, ◌<◌}
 use Rattle.scan.proofs.Bools.{cond_keeps}
 use Rattle.refusals.specs.Refusals as reading
@@ -13,7 +13,7 @@ use Rattle.table.specs.declared.SatBox.{SatBox}
 use Rattle.steps.specs.Sights.{asked_of, lists_of}
 use Rattle.steps.specs.Steps.{is_passed}
 use Rattle.steps.specs.declared.cases.Case.TheVariants.{Reading}
-use Rattle.closings.specs.Closing.{did, nothing, sweeping}
+use Rattle.closings.specs.Closing.{nothing, sweeping}
 use Rattle.serving.specs.Serving.{kept, Serving, served, denied, client_of, answered}
 use Rattle.satbox.specs.Calls.{request_outcome, requested, replied}
 use Rattle.closings.proofs.Keeping.{Whole}
@@ -64,11 +64,3 @@ answered_still s address draw t =
     let a = asked_of t.settings.frontends s in
     answered_by s address draw t (λ (x : Serving). is_passed x.case ≡ false → x.did ≡ nothing (left s t))
     (λ e. rw e (denied_still (kept a t) a (lists_of s) (client_of address draw a))) (λ e n. rw e)
-
--- and so the request does what its sweep does, and no more
-pub requested_still : (s : List ℕ) (clock address draw : ℕ) (t : SatBox) → is_passed (requested s clock address draw t).case ≡ false
-    → (requested s clock address draw t).did ≡ did (left s (sweeping clock t).satbox) (sweeping clock t).records
-unfolding requested
-requested_still s clock address draw t n =
-    let u = sweeping clock t in
-    rw (answered_still s address draw u.satbox n) (ap (λ rs. did (left s u.satbox) rs) (append-nil u.records))

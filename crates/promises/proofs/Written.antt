@@ -1,5 +1,5 @@
--- What a request writes are records of document 01, 16 bytes more are held for each of them, and the sequence rises by one with each.
--- Assumes nothing.
+-- What is written are records of document 01, 16 bytes more are held for each of them, and the sequence rises by one with each: of an opening, a closing and a
+-- sweep here, of a request, which is made of them, in `Counting`. Assumes nothing.
 use mathlib.Core.Path.{◌≡◌, refl}
 use mathlib.Core.Bool.{false}
 use mathlib.Core.List.{List}
@@ -19,14 +19,14 @@ use Rattle.steps.specs.Steps.{is_named}
 use Rattle.closings.specs.Closing.{Did, nothing, then, restreamed, reseated, noting, closing, sweeping, at_clock}
 use Rattle.closings.specs.Does.{Closable}
 use Rattle.serving.specs.Serving.{guest, seating_as as seated, can_join, joining, can_open, opening}
-use Rattle.serving.specs.Serving.{merging, merges, with_session, kept, seat_after, Serving, retuning, seating, grant, served, client_of, answered}
+use Rattle.serving.specs.Serving.{merging, kept, Serving, retuning, seating, grant, served, client_of, answered}
 use Rattle.satbox.specs.Calls.{requested}
 use Rattle.serving.specs.declared.opening.Client.{Client}
 use Rattle.closings.proofs.Closings.{closing_fine, swept_fine}
 use Rattle.closings.proofs.Keeping.{Whole, whole_roomy, clock_whole}
 use Rattle.satbox.proofs.Kept.{sweeping_whole}
 use Rattle.serving.proofs.RecordLaws.{Numbered, numbered_then, closing_numbered, swept_numbered, joining_numbered, opening_numbered}
-use Rattle.serving.proofs.Kept.{kept_by, kept_whole}
+use Rattle.serving.proofs.Kept.{kept_whole}
 use Rattle.serving.proofs.Passing.{Untested}
 use Rattle.serving.proofs.Recorded.{Recorded, recorded_then, closing_recorded, swept_recorded, joining_recorded, opening_recorded}
 use Rattle.promises.proofs.Passing.{Changing, served_by, tears_closable}
@@ -41,14 +41,14 @@ pub record Counted (t : SatBox) (d : Did) : Type 0 where
   pub held : HeldOn t d
   pub sequence : Numbered t d
 
-quiet_counted : (t u : SatBox) → u.held ≡ t.held → u.sequence ≡ t.sequence → Counted t (nothing u)
+pub quiet_counted : (t u : SatBox) → u.held ≡ t.held → u.sequence ≡ t.sequence → Counted t (nothing u)
 quiet_counted t u h q = record { held = omega arith; sequence = q }
 
-counted_then : (t : SatBox) (d : Did) (f : SatBox → Did) → Counted t d → Counted d.satbox (f d.satbox) → Counted t (then d f)
+pub counted_then : (t : SatBox) (d : Did) (f : SatBox → Did) → Counted t d → Counted d.satbox (f d.satbox) → Counted t (then d f)
 counted_then t d f p q =
     record { held = rw length-append (omega (arith, p.held, q.held)); sequence = numbered_then t d f p.sequence q.sequence }
 
-joining_counted : (id : ℕ) (client : Client) (t : SatBox) → Counted t (joining id client t)
+pub joining_counted : (id : ℕ) (client : Client) (t : SatBox) → Counted t (joining id client t)
 unfolding joining seated noting reseated
 joining_counted id client t =
     record {
@@ -56,7 +56,7 @@ joining_counted id client t =
       sequence = joining_numbered id client t;
     }
 
-opening_counted : (m : Stream) (client : Client) (t : SatBox) → Counted t (opening m client t)
+pub opening_counted : (m : Stream) (client : Client) (t : SatBox) → Counted t (opening m client t)
 unfolding opening seated noting reseated restreamed
 opening_counted m client t =
     let id = lowest_id t.streams in
@@ -65,62 +65,14 @@ opening_counted m client t =
       sequence = opening_numbered m client t;
     }
 
-closing_counted : (cause i : ℕ) (t : SatBox) → Closable t i → Counted t (closing cause i t)
+pub closing_counted : (cause i : ℕ) (t : SatBox) → Closable t i → Counted t (closing cause i t)
 closing_counted cause i t h = record { held = (closing_fine cause i t h).held; sequence = closing_numbered cause i t h }
 
-sweeping_counted : (clock : ℕ) (t : SatBox) → Whole t → Counted t (sweeping clock t)
+pub sweeping_counted : (clock : ℕ) (t : SatBox) → Whole t → Counted t (sweeping clock t)
 unfolding at_clock
 sweeping_counted clock t w =
     let r = whole_roomy (at_clock clock t) (clock_whole clock t w) in
     record { held = (swept_fine (at_clock clock t) r).held; sequence = swept_numbered (at_clock clock t) r }
-
-module _ (t : SatBox) (a : Asked) (l : Lists) (client : Client) (w : Whole t) where
-  retuning_counted : Counted t (retuning t a l).did
-  unfolding with_session restreamed
-  retuning_counted =
-      cond_keeps (λ (u : SatBox). Counted t (nothing (with_session (sight_of t a).place (seat_after (sight_of t a)) u))) (merges (sight_of t a)) (restreamed a.stream (merging t a l).stream t) t
-      (λ e. quiet_counted t _ refl refl) (λ e. quiet_counted t _ refl refl)
-
-  grant_counted : Untested (sight_of t a) → (m : Method) → a.method ≡ m → Counted t (grant m t a l client).did
-  unfolding sight_of with_session
-  grant_counted p Options e = quiet_counted t t refl refl
-  grant_counted p Setup e =
-      cond_keeps (λ (x : Serving). Counted t x.did) (is_named (sight_of t a)) (retuning t a l) (seating t a l client) (λ h. retuning_counted)
-      (λ h. cond_keeps (λ (x : Serving). Counted t x.did) (eqb a.stream 0) _ _ (λ z. opening_counted (merging t a l).stream client t) (λ z. joining_counted a.stream client t))
-  grant_counted p Play e = retuning_counted
-  grant_counted p Teardown e = closing_counted 1 (sight_of t a).place t (tears_closable t a w p e)
-  grant_counted p Other e = quiet_counted t t refl refl
-
-  pub served_counted : Counted t (served t a l client).did
-  served_counted =
-      served_by t a l client (λ (x : Serving). Counted t x.did) (λ p q. grant_counted p a.method refl) (λ e. quiet_counted t t refl refl)
-
--- the session that is named is kept, and nothing is written of it
-kept_counted : (a : Asked) (t : SatBox) (d : Did) → Counted (kept a t) d → Counted t d
-unfolding with_session
-kept_counted a t d =
-    kept_by a t (λ u. Counted u d → Counted t d) (λ y p. record { held = p.held; sequence = p.sequence }) (λ n p. p)
-
-module _ (s : List ℕ) (address draw : ℕ) where
-  pub answered_counted : (t : SatBox) → Whole t → Counted t (answered s address draw t).did
-  answered_counted t w =
-      let a = asked_of t.settings.frontends s in
-      answered_by s address draw t (λ (x : Serving). Counted t x.did) (λ e. kept_counted a t _ (served_counted (kept a t) a (lists_of s) (client_of address draw a) (kept_whole a t w)))
-      (λ e. quiet_counted t t refl refl)
-
-  pub requested_counted : (clock : ℕ) (t : SatBox) → Whole t → Counted t (requested s clock address draw t).did
-  unfolding requested
-  requested_counted clock t w =
-      counted_then t (sweeping clock t) (λ u. (answered s address draw u).did) (sweeping_counted clock t w) (answered_counted (sweeping clock t).satbox (sweeping_whole clock t w))
-
-  -- A REQUEST, of any bytes and at any clock: 16 BYTES MORE ARE HELD FOR EACH RECORD
-  pub requested_held : (clock : ℕ) (t : SatBox) → Whole t
-      → (requested s clock address draw t).did.satbox.held ≡ t.held + 16 * length (requested s clock address draw t).did.records
-  requested_held clock t w = (requested_counted clock t w).held
-
-  -- THE SEQUENCE "rises by one per record, wraps after 65535", and the table keeps the next
-  pub requested_numbered : (clock : ℕ) (t : SatBox) → Whole t → Numbered t (requested s clock address draw t).did
-  requested_numbered clock t w = (requested_counted clock t w).sequence
 
 -- ALL THAT IS WRITTEN ARE RECORDS: kind and cause go together, "Session is not 0, stream and frontend are 1 to 8"
 module _ (t : SatBox) (a : Asked) (l : Lists) (w : Whole t) (fit : Fit a) (client : Client) (port : client.port ≡ port_of a.transport) (draw : client.draw < 4294967296) where
