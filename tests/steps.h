@@ -1,6 +1,6 @@
 /*
- * Counts the instructions that the processor executes, by its own trap after each of them: nothing is installed for it, and an emulator
- * that knows the trap counts alike. x86-64 under Linux only.
+ * Counts the instructions that the processor executes, by its own trap after each of them: nothing is installed for it. x86-64 under Linux
+ * only.
  */
 #ifndef STEPS_H
 #define STEPS_H
