@@ -56,13 +56,16 @@
 #define SATBOX_TIMEOUT 60u              /* seconds: a session of this age is expired, one of 59 is not */
 #define SATBOX_CLOCK_MAX 4294967295u    /* here time stands still: no session opened now ever expires */
 
-/* Bytes of stack that each call takes, with its arguments on it and its return address. docs/FIRMWARE.md says how that was measured. */
-#define SATBOX_STACK_REQUEST 4872u
+/*
+ * Bytes of stack that each call takes, with its arguments on it and its return address. docs/FIRMWARE.md says how that was measured. They are of this
+ * archive: one of the same version that another kit built takes others (its MANIFEST names the kit).
+ */
+#define SATBOX_STACK_REQUEST 7744u
 #define SATBOX_STACK_TICK 3272u
-#define SATBOX_STACK_ORDER 2776u
-#define SATBOX_STACK_COLLECT 2712u
+#define SATBOX_STACK_ORDER 6200u
+#define SATBOX_STACK_COLLECT 2808u
 #define SATBOX_STACK_MAKE 1576u
-#define SATBOX_STACK_WRITE_RECORD 80u
+#define SATBOX_STACK_WRITE_RECORD 72u
 #define SATBOX_STACK_READ_RECORD 56u
 #define SATBOX_STACK_VERSION 8u
 
