@@ -1,4 +1,4 @@
--- ORDER 1: the choice of a frontend on a well_formed_law table and, where every set is full, the lowest free one and steps 11 to 18 without a src at 17. It stands
+-- ORDER 1: the choice of a frontend on a well-formed table and, where every set is full, the lowest free one and steps 11 to 18 without a src at 17. It stands
 -- apart from `Reaching`, on which it rests, so that another choice there (`IsChoice`) and other sets (`AllReach`) are refused where they stand. Assumes nothing.
 use mathlib.Core.Path.{◌≡◌, refl, sym, ◌∙◌, ap}
 use mathlib.Core.Bool.{true, false, not, ◌&&◌, ◌||◌, and-false}

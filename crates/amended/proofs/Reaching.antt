@@ -1,4 +1,4 @@
--- ORDER 1 OF DOCUMENT 02, "Not every tuner sees every dish": what the choice of a frontend is, what a well_formed_law table says of the sources, and what it
+-- ORDER 1 OF DOCUMENT 02, "Not every tuner sees every dish": what the choice of a frontend is, what a well-formed table says of the sources, and what it
 -- is that a box's frontends reach all four; of the choice of every such table, and of every request to such a box, in `Choosing`. Assumes nothing.
 use mathlib.Core.Path.{◌≡◌, refl, ap}
 use mathlib.Core.Bool.{Bool, true, false, not, ◌&&◌, ◌||◌, or-true, and-true, and-false}

@@ -27,7 +27,7 @@ use Rattle.closings.proofs.Closings.{free, close_one_fine, closing_fine, closabl
 use Rattle.closings.proofs.DoesLaws.{Fine}
 use Rattle.closings.proofs.Runs.{upto_keeps, upto_map}
 
--- a well_formed_law table with all its places, as every table of the code has them
+-- a well-formed table with all its places, as every table of the code has them
 pub record Whole (t : SatBox) : Type 0 where
   pub formed : WellFormed t
   pub places : length t.sessions ≡ 32

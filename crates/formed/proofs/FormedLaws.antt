@@ -40,7 +40,7 @@ module _ (t : SatBox) where
       (λ s. ap (λ (n : ℕ). is_free s || not (eqb n 0)) (ap (λ a. get_or a s.stream 0) e ∙ get_or-map (λ m. m.frontend) (past_stream ∷ t.streams) s.stream past_stream))
       t.sessions
 
-  -- what the two looks say of a well_formed_law table
+  -- what the two looks say of a well-formed table
   parts : well_formed t ≡ true → (all (is_placed t.settings) t.streams ≡ true)
       × ((feeds : List ℕ) → feeds ≡ 0 ∷ frontends_of t.streams → are_seated t.clock t.held t.settings.size feeds t.sessions ≡ true)
   unfolding well_formed

@@ -1,5 +1,5 @@
 -- The walk over the sessions: a record for what holds before a place, and a law for the start, a turn and each way out. A walk that ends early
--- met what no sessions of a well_formed_law table have. Assumes nothing.
+-- met what no sessions of a well-formed table have. Assumes nothing.
 use mathlib.Core.Path.{◌≡◌, refl, sym, ◌∙◌, ap, subst}
 use mathlib.Core.Bool.{Bool, true, false, not, ◌&&◌, ◌||◌, cond, and-false, or_assoc}
 use mathlib.Core.List.{List, [], ◌∷◌}

@@ -1,4 +1,4 @@
--- The auditor's answers in a well_formed_law table: which frontends are held; and where and when one was let go. Assumes nothing.
+-- The auditor's answers in a well-formed table: which frontends are held; and where and when one was let go. Assumes nothing.
 use mathlib.Core.Path.{◌≡◌, refl, sym, ◌∙◌, ap, subst}
 use mathlib.Core.Bool.{Bool, true, false, cond, ◌||◌}
 use mathlib.Core.List.{List, [], ◌∷◌}

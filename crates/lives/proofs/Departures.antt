@@ -13,7 +13,7 @@ use Rattle.stream.specs.declared.Stream.{Stream}
 use Rattle.table.specs.Table.{count, no_session, session_at, stream_of, is_on}
 use Rattle.table.specs.declared.Session.{Session}
 use Rattle.table.specs.declared.SatBox.{SatBox}
-use Rattle.table.proofs.Counts.{get_d_set_here, count_zero_at, count_cleared_none}
+use Rattle.table.proofs.Counts.{get_or_set_here, count_zero_at, count_cleared_none}
 use Rattle.closings.specs.Closing.{Did, nothing, then, upto, restreamed, reseated, noting, close_one, close_on, cascade, closing, is_expired, sweep_at}
 use Rattle.closings.specs.Does.{Roomy, Closable}
 use Rattle.closings.proofs.Closings.{free, closable, close_one_fine, close_on_fine}
@@ -27,7 +27,7 @@ one_fate : (cause i : ℕ) (t : SatBox) → Closable t i → (k : ℕ) → Same 
 unfolding close_one noting reseated
 one_fate cause i t h k (same e) =
     subst (λ n. Fate t (close_one cause i t) (session_at t n) (session_at (close_one cause i t).satbox n)) (sym e)
-    (leaves (get_d_set_here (λ x. x ≡ no_session) t.sessions i no_session no_session refl refl) h.some (closing_noted cause i t))
+    (leaves (get_or_set_here (λ x. x ≡ no_session) t.sessions i no_session no_session refl refl) h.some (closing_noted cause i t))
 one_fate cause i t h k (other e) = stays (get_or-set_other t.sessions i k no_session no_session e) (λ some. refl)
 
 close_one_fates : (cause i : ℕ) (t : SatBox) → Closable t i → Fates t (close_one cause i t)

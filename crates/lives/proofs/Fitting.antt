@@ -14,7 +14,7 @@ use Rattle.finding.specs.Finding.{lowest_place, lowest_id, drawn}
 use Rattle.finding.proofs.Draws.{is_taken, next_number, drawn_from}
 use Rattle.table.specs.declared.Session.{Session}
 use Rattle.table.specs.declared.SatBox.{SatBox}
-use Rattle.table.proofs.Counts.{get_d_set_all}
+use Rattle.table.proofs.Counts.{get_or_set_all}
 use Rattle.closings.specs.Closing.{Did, nothing, then, restreamed, reseated, noting, close_one, closing, sweeping, at_clock}
 use Rattle.closings.specs.Does.{Closable}
 use Rattle.closings.proofs.Closings.{free}
@@ -62,7 +62,7 @@ noting_fitting : (kind cause : ℕ) (s : Session) (place : ℕ) (after : Session
 unfolding noting reseated
 noting_fitting kind cause s place after t a b h =
     record {
-      kept = record { clock = h.clock; numbers = λ k. get_d_set_all (λ (x : Session). x.number < 4294967296) t.sessions place k after no_session b (h.numbers k) };
+      kept = record { clock = h.clock; numbers = λ k. get_or_set_all (λ (x : Session). x.number < 4294967296) t.sessions place k after no_session b (h.numbers k) };
       fit = rw (lt-ltb t.clock 4294967296 h.clock, lt-ltb s.number 4294967296 a);
     }
 
@@ -121,7 +121,7 @@ changed_fitting {t} place s e r h =
       kept =
           record {
             clock = rw same.1 h.clock;
-            numbers = rw same.0 (λ k. get_d_set_all (λ (x : Session). x.number < 4294967296) t.sessions place k s no_session (rw e (h.numbers place)) (h.numbers k));
+            numbers = rw same.0 (λ k. get_or_set_all (λ (x : Session). x.number < 4294967296) t.sessions place k s no_session (rw e (h.numbers place)) (h.numbers k));
           };
       fit = refl;
     }

@@ -24,7 +24,7 @@ use Rattle.table.specs.declared.Settings.{Settings}
 use Rattle.table.specs.declared.SatBox.{SatBox}
 use Rattle.table.specs.declared.Outcome.{Outcome}
 use Rattle.table.specs.declared.Outcome.TheVariants.{Done, Refused}
-use Rattle.table.proofs.Counts.{bit_no, bit_yes, count_set, count_zero_at, get_d_set_all}
+use Rattle.table.proofs.Counts.{bit_no, bit_yes, count_set, count_zero_at, get_or_set_all}
 use Rattle.steps.specs.Sights.{asked_of, sight_of}
 use Rattle.steps.specs.Steps.{is_passed}
 use Rattle.closings.specs.Closing.{Did, nothing, then, restreamed, reseated, noting, record_of, closing, is_expired, sweep_at, swept, sweeping, at_clock}
@@ -129,7 +129,7 @@ module _ (n c : ℕ) (some : n ≡ 0 → ⊥) where
   -- AN OPENING, and a session changed in its place
   module _ (t : SatBox) (w : Whole t) (now : c ≤ t.clock) where
     set_heard : (place : ℕ) (s : Session) → (s.number ≡ n → c ≤ s.last) → Heard n c t → (i : ℕ) → (get_or (set t.sessions place s) i no_session).number ≡ n → c ≤ (get_or (set t.sessions place s) i no_session).last
-    set_heard place s new h i = get_d_set_all (λ (x : Session). x.number ≡ n → c ≤ x.last) t.sessions place i s no_session new (h i)
+    set_heard place s new h i = get_or_set_all (λ (x : Session). x.number ≡ n → c ≤ x.last) t.sessions place i s no_session new (h i)
 
     joining_ages : (id : ℕ) (client : Client) → Ages t (joining id client t)
     unfolding joining seated noting reseated

@@ -15,7 +15,7 @@ use Rattle.stream.specs.declared.Stream.{Stream}
 use Rattle.table.specs.Table.{any, no_session, has_number, with_stream, is_on, owns}
 use Rattle.table.proofs.Ids.{stream_in}
 use Rattle.table.specs.declared.Session.{Session}
-use Rattle.table.proofs.Counts.{get_d_set_alike}
+use Rattle.table.proofs.Counts.{get_or_set_alike}
 use Rattle.serving.proofs.Kept.{Alike}
 use Rattle.promises.proofs.Retuning.{stream_other}
 use Rattle.lives.specs.Audit.{Frontend, unheld, held_by, let_go, is_held_by, closed_by, noted_by}
@@ -130,7 +130,7 @@ off_keeps ms id m f n s off (is z) =
 with_feed : (ms : List Stream) (id : ℕ) (m : Stream) → m.frontend ≡ (stream_in ms id).frontend → (k : ℕ) → (stream_in (with_stream id m ms) k).frontend ≡ (stream_in ms k).frontend
 with_feed ms zero m e k = refl
 with_feed ms (suc i) m e zero = refl
-with_feed ms (suc i) m e (suc k) = get_d_set_alike (λ (x : Stream). x.frontend) ms i k m past_stream e
+with_feed ms (suc i) m e (suc k) = get_or_set_alike (λ (x : Stream). x.frontend) ms i k m past_stream e
 
 pub fed_keeps : (ms : List Stream) (id : ℕ) (m : Stream) → m.frontend ≡ (stream_in ms id).frontend → (l : List Session) (f n : ℕ) → any (keeps (with_stream id m ms) f n) l ≡ any (keeps ms f n) l
 fed_keeps ms id m e l f n =

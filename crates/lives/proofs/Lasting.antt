@@ -21,7 +21,7 @@ use Rattle.table.specs.declared.Session.{Session}
 use Rattle.table.specs.declared.SatBox.{SatBox}
 use Rattle.table.specs.declared.Outcome.{Outcome}
 use Rattle.table.specs.declared.Outcome.TheVariants.{Done, Refused}
-use Rattle.table.proofs.Counts.{get_d_set_alike, first_some, first_passes}
+use Rattle.table.proofs.Counts.{get_or_set_alike, first_some, first_passes}
 use Rattle.table.proofs.Changes.{opened, seated_live}
 use Rattle.steps.specs.Steps.{is_passed}
 use Rattle.closings.specs.Closing.{Did, nothing, restreamed, reseated, noting, is_expired, sweeping, at_clock}
@@ -65,7 +65,7 @@ changed_lasts : {t u : SatBox} (place : ℕ) (s : Session) → Kin t.clock s (se
 unfolding with_session
 changed_lasts {t} place s k r =
     record {
-      numbers = rw (retuned_same r).0 (λ i some. get_d_set_alike (λ (x : Session). x.number) t.sessions place i s no_session k.alike.number);
+      numbers = rw (retuned_same r).0 (λ i some. get_or_set_alike (λ (x : Session). x.number) t.sessions place i s no_session k.alike.number);
       opens = refl;
     }
 

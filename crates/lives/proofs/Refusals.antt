@@ -1,4 +1,4 @@
--- Which refusals a call on a well_formed_law box can get: never 1, and 2 exactly if its journal is of another length. Assumes nothing.
+-- Which refusals a call on a well-formed box can get: never 1, and 2 exactly if its journal is of another length. Assumes nothing.
 use mathlib.Core.Path.{◌≡◌, refl}
 use mathlib.Core.Bool.{Bool, true, false, not, ◌&&◌}
 use mathlib.Core.Logic.{◌↔◌}
@@ -34,7 +34,7 @@ last_test : (b : Bool) (r : Refusal) → Past (Refused r) → Past (b else r and
 last_test true r h = past_done
 last_test false r h = h
 
--- on a well_formed_law table, with a journal that is of length C or not
+-- on a well-formed table, with a journal that is of length C or not
 abbrev Gated : Bool → Outcome → Type 0
 Gated lacks o = (number_in o ≡ 1 → ⊥) × ((number_in o ≡ 2) ↔ (lacks ≡ true))
 

@@ -82,7 +82,7 @@ requested_set s clock address draw t w =
     let b = answered_set s address draw u (sweeping_whole clock t w) in
     record { settings = b.settings ∙ a.settings; clock = b.clock ∙ a.clock }
 
--- EVERY CALL, on any well_formed_law table
+-- EVERY CALL, on any well-formed table
 module _ (x : Life) (w : Whole x.satbox) where
   abbrev t : SatBox
   t = x.satbox

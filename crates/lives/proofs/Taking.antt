@@ -16,7 +16,7 @@ use Rattle.stream.specs.Streams.{no_stream, past_stream}
 use Rattle.table.specs.Table.{count, no_session, has_number, is_open, session_at, stream_of, is_on, owns}
 use Rattle.table.specs.declared.Session.{Session}
 use Rattle.table.specs.declared.SatBox.{SatBox}
-use Rattle.table.proofs.Counts.{bit_yes, bit_no, count_set, count_zero_at, get_d_set_here}
+use Rattle.table.proofs.Counts.{bit_yes, bit_no, count_set, count_zero_at, get_or_set_here}
 use Rattle.table.proofs.Changes.{opened, seated_live}
 use Rattle.closings.specs.Closing.{Did, nothing, then, upto, reseated, noting, close_one, close_on, cascade, closing}
 use Rattle.closings.specs.Does.{Closable}
@@ -24,7 +24,7 @@ use Rattle.closings.proofs.Closings.{free}
 use Rattle.closings.proofs.Keeping.{Whole, owner_sessions, owner_streams}
 use Rattle.lives.specs.Closed.{takes, closing_of, unnumbered, in_order, closings_at}
 use Rattle.promises.proofs.Retuning.{stream_other}
-use Rattle.promises.proofs.Methods.{get_d_clear}
+use Rattle.promises.proofs.Methods.{get_or_clear}
 use Rattle.lives.proofs.Fates.{off_stream}
 
 -- OF LISTS: what passes a test that the default fails is in the list, and the first that passes is not past it
@@ -146,7 +146,7 @@ module _ (cause i : ℕ) (t : SatBox) (c : Closable t i) (w : Whole t) where
     alone_seats : (k : ℕ) → Same k i → session_at (closing cause i t).satbox k ≡ cond (takes s (session_at t k)) no_session (session_at t k)
     unfolding close_one noting reseated
     alone_seats k (same e) =
-        rw (e, alone_is, takes_self s) (get_d_set_here (λ (x : Session). x ≡ no_session) t.sessions i no_session no_session refl refl)
+        rw (e, alone_is, takes_self s) (get_or_set_here (λ (x : Session). x ≡ no_session) t.sessions i no_session no_session refl refl)
     alone_seats k (other e) = rw (alone_is, alone k e) (get_or-set_other t.sessions i k no_session no_session e)
 
     alone_rows : (id : ℕ) → stream_of (closing cause i t).satbox id ≡ stream_of t id
@@ -178,7 +178,7 @@ module _ (cause i : ℕ) (t : SatBox) (c : Closable t i) (w : Whole t) where
 
     owner_seats : (k : ℕ) → session_at (closing cause i t).satbox k ≡ cond (takes s (session_at t k)) no_session (session_at t k)
     owner_seats k =
-        rw (owner_sessions cause i t c w own, owner_takes k (sames k i)) (get_d_clear id t.sessions k)
+        rw (owner_sessions cause i t c w own, owner_takes k (sames k i)) (get_or_clear id t.sessions k)
 
     owner_rows : (k : ℕ) → is_open (session_at t k) ≡ true → takes s (session_at t k) ≡ false → stream_of (closing cause i t).satbox (session_at t k).stream ≡ stream_of t (session_at t k).stream
     owner_rows k some left =
@@ -190,7 +190,7 @@ module _ (cause i : ℕ) (t : SatBox) (c : Closable t i) (w : Whole t) where
         ≡ cond (takes s (session_at t k) && not (eqb k i)) (closing_of 3 t k ∷ []) []
     unfolding reseated
     beside k (same e) =
-        let here = get_d_set_here (λ (x : Session). x ≡ no_session) t.sessions i no_session no_session refl refl in
+        let here = get_or_set_here (λ (x : Session). x ≡ no_session) t.sessions i no_session no_session refl refl in
         rw (e, here, eq-eqb i i refl, and-false (takes s s))
     beside k (other e) =
         rw (get_or-set_other t.sessions i k no_session no_session e, ne_eqb k i e, owner_takes k (other e)) (ap (λ b. cond b (closing_of 3 t k ∷ []) []) (sym (and-true (is_on id (session_at t k)))))

@@ -15,7 +15,7 @@ use Rattle.table.specs.declared.Settings.{Settings}
 use Rattle.table.specs.declared.SatBox.{SatBox}
 use Rattle.table.specs.declared.Outcome.{Outcome}
 use Rattle.table.specs.declared.Outcome.TheVariants.{Done, Refused}
-use Rattle.table.proofs.Counts.{get_d_set_all}
+use Rattle.table.proofs.Counts.{get_or_set_all}
 use Rattle.closings.specs.Closing.{Did, nothing, restreamed, reseated, noting, is_expired, closing, sweeping, at_clock}
 use Rattle.closings.specs.Does.{Closable}
 use Rattle.serving.specs.Serving.{guest, seating_as as seated, can_join, joining, can_open, opening}
@@ -49,7 +49,7 @@ unfolding joining seated noting reseated
 joining_young id client t y =
     let s = guest 0 id client t in
     cond_keeps (λ (d : Did). Young t.clock d.satbox) (can_join id t) (seated 2 s t) (nothing t)
-    (λ e k. get_d_set_all (λ (x : Session). is_expired t.clock x ≡ false) t.sessions (lowest_place t.sessions) k s no_session (heard t.clock s refl) (y k))
+    (λ e k. get_or_set_all (λ (x : Session). is_expired t.clock x ≡ false) t.sessions (lowest_place t.sessions) k s no_session (heard t.clock s refl) (y k))
     (λ e. y)
 
 opening_young : (m : Stream) (client : Client) (t : SatBox) → Young t.clock t → Young t.clock (opening m client t).satbox
@@ -58,7 +58,7 @@ opening_young m client t y =
     let id = lowest_id t.streams in
     let s = guest 1 id client t in
     cond_keeps (λ (d : Did). Young t.clock d.satbox) (can_open m.values.src m.frontend t) (seated 1 s (restreamed id m t)) (nothing t)
-    (λ e k. get_d_set_all (λ (x : Session). is_expired t.clock x ≡ false) t.sessions (lowest_place t.sessions) k s no_session (heard t.clock s refl) (y k))
+    (λ e k. get_or_set_all (λ (x : Session). is_expired t.clock x ≡ false) t.sessions (lowest_place t.sessions) k s no_session (heard t.clock s refl) (y k))
     (λ e. y)
 
 -- A SESSION CHANGED in its place
@@ -66,7 +66,7 @@ changed_young : {t u : SatBox} (place : ℕ) (s : Session) → Young t.clock t �
 unfolding with_session
 changed_young {t} place s y k r =
     let new = heard t.clock s k.last in
-    rw (retuned_same r).0 (λ i. get_d_set_all (λ (x : Session). is_expired t.clock x ≡ false) t.sessions place i s no_session new (y i))
+    rw (retuned_same r).0 (λ i. get_or_set_all (λ (x : Session). is_expired t.clock x ≡ false) t.sessions place i s no_session new (y i))
 
 closing_young : (place : ℕ) (t : SatBox) → Young t.clock t → Closable t place → Young t.clock (closing 1 place t).satbox
 closing_young place t y c i =

@@ -44,7 +44,7 @@ module _ (s : List ℕ) (address draw : ℕ) (t : SatBox) (read : request_refusa
       options_passes =
           passes (ap (λ (x : Serving). x.case) (options_granted t a (lists_of s) refl (options_table s address draw t read named options) options (client_of address draw a)))
 
-    -- TEARDOWN of the session's own stream, on a well_formed_law table
+    -- TEARDOWN of the session's own stream, on a well-formed table
     module _ (w : Whole t) (teardown : method_of s ≡ Teardown) (own : a.stream ≡ (session_at t place).stream) where
       pub teardown_passes : (answered s address draw t).case ≡ Passed
       unfolding sight_of

@@ -14,7 +14,7 @@ use Rattle.table.specs.Table.{no_session, session_at}
 use Rattle.finding.specs.Finding.{choice}
 use Rattle.table.specs.declared.Session.{Session}
 use Rattle.table.specs.declared.SatBox.{SatBox}
-use Rattle.table.proofs.Counts.{get_d_set_alike}
+use Rattle.table.proofs.Counts.{get_or_set_alike}
 use Rattle.steps.specs.Sights.{Asked, Lists, asked_of, lists_of, place_named, sight_of}
 use Rattle.steps.specs.Steps.{is_passed, is_setup, is_named, table_case}
 use Rattle.steps.specs.declared.Sight.{Sight}
@@ -49,7 +49,7 @@ module _ (a : Asked) (t : SatBox) where
   pub kept_session : {B : Type 0} (f : Session → B) → ((clock : ℕ) (s : Session) → f (refreshed clock s) ≡ f s) → (i : ℕ) → f (session_at (kept a t) i) ≡ f (session_at t i)
   unfolding with_session
   kept_session f e i =
-      kept_by a t (λ u. f (session_at u i) ≡ f (session_at t i)) (λ y. get_d_set_alike f t.sessions (seat a t) i (since a t) no_session (e t.clock (session_at t (seat a t)))) (λ n. refl)
+      kept_by a t (λ u. f (session_at u i) ≡ f (session_at t i)) (λ y. get_or_set_alike f t.sessions (seat a t) i (since a t) no_session (e t.clock (session_at t (seat a t)))) (λ n. refl)
 
   -- the one that is named closes as it would have
   pub kept_closes : (cause : ℕ) → closing cause (sight_of (kept a t) a).place (kept a t) ≡ closing cause (sight_of t a).place t

@@ -80,7 +80,7 @@ module _ (s : List ℕ) (address draw : ℕ) (t : SatBox) (read : request_refusa
       unfolding table_case sight_of
       options_table = rw (options, lt-ltb place 32 named, no_query (rw options))
 
-    -- TEARDOWN of the session's own stream, on a well_formed_law table
+    -- TEARDOWN of the session's own stream, on a well-formed table
     module _ (w : Whole t) (teardown : method_of s ≡ Teardown) (own : a.stream ≡ (session_at t place).stream) where
       live : (stream_of t a.stream).frontend ≡ 0 → ⊥
       unfolding sight_of

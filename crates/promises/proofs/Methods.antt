@@ -1,4 +1,4 @@
--- WHAT EACH METHOD CHANGES, AND WHAT IT LEAVES ALONE: of a request answered 200, with any bytes s, on a well_formed_law table t that was swept; session by
+-- WHAT EACH METHOD CHANGES, AND WHAT IT LEAVES ALONE: of a request answered 200, with any bytes s, on a well-formed table t that was swept; session by
 -- session and field by field. A request that gets another status changes nothing but a last time (`Requests.answered_still`). Which records an opening
 -- and a closing write is said in `Records`, and what is held for them in `Written`. Assumes nothing.
 use mathlib.Core.Path.{◌≡◌, refl, ◌∙◌, ap, subst}
@@ -68,10 +68,10 @@ abbrev pub tuned : SatBox → Asked → Lists → Session → Stream
 tuned t a l s = cond (eqb s.owner 0) (stream_of t s.stream) (queried (stream_of t s.stream) a l)
 
 -- A CHANGE OF THE LISTS
-pub get_d_clear : (id : ℕ) (l : List Session) (k : ℕ) → get_or (map (clear id) l) k no_session ≡ clear id (get_or l k no_session)
-get_d_clear id [] k = refl
-get_d_clear id (s ∷ l) zero = refl
-get_d_clear id (s ∷ l) (suc k) = get_d_clear id l k
+pub get_or_clear : (id : ℕ) (l : List Session) (k : ℕ) → get_or (map (clear id) l) k no_session ≡ clear id (get_or l k no_session)
+get_or_clear id [] k = refl
+get_or_clear id (s ∷ l) zero = refl
+get_or_clear id (s ∷ l) (suc k) = get_or_clear id l k
 
 -- THE METHODS
 module _ (s : List ℕ) (address draw : ℕ) (t : SatBox) where
@@ -209,8 +209,8 @@ module _ (s : List ℕ) (address draw : ℕ) (t : SatBox) where
             let ms = owner_streams 1 place t c w some in
             rw closes
             (record {
-              gone = λ i on. rw (ss, get_d_clear id t.sessions i, on);
-              others = λ i off. rw (ss, get_d_clear id t.sessions i, off);
+              gone = λ i on. rw (ss, get_or_clear id t.sessions i, on);
+              others = λ i off. rw (ss, get_or_clear id t.sessions i, off);
               stream = rw ms (stream_same id no_stream t.streams (seated_live t.sessions (past_stream ∷ t.streams) w.formed.seats place c.some));
               streams = λ k h. rw ms (stream_other id k no_stream t.streams h);
               settled = settled_same f.settings f.clock;

@@ -1,4 +1,4 @@
--- WHOM A REQUEST KEEPS, order 3 of document 02: whoever it names, whatever its method and its status; of any bytes s, on a well_formed_law table t that was
+-- WHOM A REQUEST KEEPS, order 3 of document 02: whoever it names, whatever its method and its status; of any bytes s, on a well-formed table t that was
 -- swept. Assumes nothing.
 use mathlib.Core.Path.{◌≡◌, refl}
 use mathlib.Core.Bool.{true}

@@ -29,7 +29,7 @@ pub reads : Reads
 reads frontends s e =
     record { codes = asked_fit frontends s; port = port_read (first_value (values_of 2 (header_lines s))) }
 
--- ANY REQUEST, of any bytes s, at any clock, from any address, with any 32-bit draw, on a well_formed_law table (`Whole`)
+-- ANY REQUEST, of any bytes s, at any clock, from any address, with any 32-bit draw, on a well-formed table (`Whole`)
 module _ (s : List ℕ) (clock address draw : ℕ) (short : draw < 4294967296) (t : SatBox) (w : Whole t) where
   -- the table stays well formed after it,
   pub request_whole : Whole (requested s clock address draw t).did.satbox

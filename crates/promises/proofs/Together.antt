@@ -12,7 +12,7 @@ pub record Edges : Type 0 where
   pub freq : P8
   pub room : P9
   pub port : P10
-  pub first_record_law : P11
+  pub first_record : P11
 
 pub edges : Edges
 edges =
@@ -27,5 +27,5 @@ edges =
       freq = p8;
       room = p9;
       port = p10;
-      first_record_law = p11;
+      first_record = p11;
     }

@@ -128,7 +128,7 @@ module _ (s : List ℕ) (address draw : ℕ) (t : SatBox) (r : Request) (i : Req
     answer_done = let c = answer_front.1 in record { turn = p; count = c; buffer = rw c answer_front.0 }
 
 -- THE CALL
--- what is answered is answered on a well_formed_law table
+-- what is answered is answered on a well-formed table
 pub swept_formed : {t u v : SatBox} {j k : List ℕ} (clock : ℕ) → Whole t → u ≡ at_clock clock t → Does u j (swept u) v k → well_formed v ≡ true
 swept_formed {t} {u} {v} {j} {k} clock w e p =
     let q = subst (λ x. Does x j (swept x) v k) e p in

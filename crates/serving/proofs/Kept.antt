@@ -19,7 +19,7 @@ use Rattle.table.specs.Formed.{is_seated}
 use Rattle.table.proofs.Rules.{is_proper}
 use Rattle.table.specs.declared.Session.{Session}
 use Rattle.table.specs.declared.SatBox.{SatBox}
-use Rattle.table.proofs.Counts.{count_set_same, get_d_set_alike}
+use Rattle.table.proofs.Counts.{count_set_same, get_or_set_alike}
 use Rattle.table.proofs.Changes.{seats_alike, proper_set}
 use Rattle.steps.specs.Sights.{Asked, place_named, session_number, sight_of}
 use Rattle.steps.specs.Steps.{is_named}
@@ -97,7 +97,7 @@ module _ (place : ℕ) (s : Session) (t : SatBox) where
   module _ (k : Alike s (session_at t place)) where
     seat_alike : {B : Type 0} (f : Session → B) → f s ≡ f (session_at t place) → f (session_at (with_session place s t) place) ≡ f (session_at t place)
     unfolding with_session
-    seat_alike f e = get_d_set_alike f t.sessions place place s no_session e
+    seat_alike f e = get_or_set_alike f t.sessions place place s no_session e
 
     close_again : (cause : ℕ) → close_one cause place (with_session place s t) ≡ close_one cause place t
     unfolding close_one noting reseated with_session

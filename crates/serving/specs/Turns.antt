@@ -178,7 +178,7 @@ pub record TurnIs (t : SatBox) (y : Serving) (x : Turn) : Type 0 where
   pub case : x.case ≡ y.case
   pub can : Performable t x
 
--- HOW FAR IT HAS COME: a request that was read, on a well_formed_law table with all its places
+-- HOW FAR IT HAS COME: a request that was read, on a well-formed table with all its places
 pub record Servable (t : SatBox) (s : List ℕ) (r : Request) : Type 0 where
   pub formed : well_formed t ≡ true
   pub places : length t.sessions ≡ 32

@@ -24,7 +24,7 @@ blank frontend = record { pids = replicate 32 0; values = only_src 1; count = 0;
 unfoldable pub are_zero : Stream → Bool
 are_zero m = are_none m.values && (eqb m.count 0 && eqb m.all 0 && all is_zero m.pids)
 
--- a place of a well_formed_law table on a box with so many frontends: unused, or a live stream with "frontends 1 to F; every value in range
+-- a place of a well-formed table on a box with so many frontends: unused, or a live stream with "frontends 1 to F; every value in range
 -- and the combination rule holds; PID lists ascending without repeats"
 unfoldable pub is_sound : ℕ → Stream → Bool
 is_sound frontends m =

@@ -14,7 +14,7 @@ use Rattle.stream.specs.Streams.{no_stream, past_stream, is_sound, are_zero}
 use Rattle.stream.specs.declared.Stream.{Stream}
 use Rattle.stream.specs.Values.{are_none}
 use Rattle.table.specs.Table.{count, no_session, has_number, is_free, is_open, with_stream, is_on, owns}
-use Rattle.table.proofs.Counts.{bit, bit_no, bit_yes, count_le, count_set, count_zero_at, count_set_le, count_set_same, cleared, count_cleared_le, count_cleared_same, count_cleared_none, all_cleared, once_set, get_d_set_all, get_d_set_alike, get_d_set_here}
+use Rattle.table.proofs.Counts.{bit, bit_no, bit_yes, count_le, count_set, count_zero_at, count_set_le, count_set_same, cleared, count_cleared_le, count_cleared_same, count_cleared_none, all_cleared, once_set, get_or_set_all, get_or_set_alike, get_or_set_here}
 use Rattle.table.proofs.Ids.{stream_in}
 use Rattle.table.specs.Formed.{is_placed, is_seated, is_blank}
 use Rattle.table.proofs.Rules.{is_proper, fed, Seats, Rows, AreProper, past_placed}
@@ -83,7 +83,7 @@ module _ (l : List Session) (m : List Stream) (r : Seats l m) where
     homes_emptied j h (other q) = omega (arith, less (is_on j) refl, r.homes j (rw (stays j q) at h))
 
     owners_emptied : (j : ℕ) → ((get_or (set m k no_stream) j past_stream).frontend ≡ 0 → ⊥) → Same j k → count (owns j) (map (clear k) l) ≡ 1
-    owners_emptied j h (same q) = absurd (h (rw q (get_d_set_here (λ x. x.frontend ≡ 0) m k no_stream past_stream refl refl)))
+    owners_emptied j h (same q) = absurd (h (rw q (get_or_set_here (λ x. x.frontend ≡ 0) m k no_stream past_stream refl refl)))
     owners_emptied j h (other q) =
         count_cleared_same (is_on k) no_session (owns j) refl (owns_off k j q) l ∙ r.owners j (rw (stays j q) at h)
 
@@ -151,7 +151,7 @@ module _ (l : List Session) (m : List Stream) (r : Seats l m) where
   -- A STREAM CHANGES, but keeps its frontend
   pub seats_fed : (k : ℕ) (x : Stream) → x.frontend ≡ (get_or m k past_stream).frontend → Seats l (set m k x)
   seats_fed k x e =
-      let at : (j : ℕ) → (get_or (set m k x) j past_stream).frontend ≡ (get_or m j past_stream).frontend = λ j. get_d_set_alike (λ y. y.frontend) m k j x past_stream e in
+      let at : (j : ℕ) → (get_or (set m k x) j past_stream).frontend ≡ (get_or m j past_stream).frontend = λ j. get_or_set_alike (λ y. y.frontend) m k j x past_stream e in
       record { numbers = r.numbers; homes = λ j g. r.homes j (sym (at j) ∙ g); owners = λ j g. r.owners j (λ q. g (at j ∙ q)) }
 
 -- the streams by their IDs, with another one of an ID
@@ -170,7 +170,7 @@ none_placed s = refl
 module _ (s : Settings) (ms : List Stream) (r : Rows s ms) where
   placed_with : (id : ℕ) (x : Stream) → is_placed s x ≡ true → (k : ℕ) → is_placed s (get_or (with_stream id x ms) k past_stream) ≡ true
   placed_with zero x good k = r.placed k
-  placed_with (suc i) x good k = get_d_set_all (λ y. is_placed s y ≡ true) ms i k x past_stream good (r.placed k)
+  placed_with (suc i) x good k = get_or_set_all (λ y. is_placed s y ≡ true) ms i k x past_stream good (r.placed k)
 
   -- the stream of every ID
   pub placed_at : (id : ℕ) → is_placed s (stream_in ms id) ≡ true
@@ -207,7 +207,7 @@ none_proper clock = refl
 
 module _ (clock : ℕ) (l : List Session) (r : AreProper clock l) where
   pub proper_set : (i : ℕ) (s : Session) → is_proper clock s ≡ true → AreProper clock (set l i s)
-  proper_set i s h j = get_d_set_all (λ x. is_proper clock x ≡ true) l i j s no_session h (r j)
+  proper_set i s h j = get_or_set_all (λ x. is_proper clock x ≡ true) l i j s no_session h (r j)
 
   pub proper_cleared : (k : ℕ) → AreProper clock (map (clear k) l)
   proper_cleared k = all_cleared (is_on k) no_session (λ x. is_proper clock x ≡ true) l no_session (none_proper clock) (none_proper clock) r

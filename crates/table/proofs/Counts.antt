@@ -179,26 +179,26 @@ module _ {A : Type 0} (q : A → Bool) (z : A) where
   all_cleared P (a ∷ l) d h k g (suc i) = all_cleared P l d h k (λ j. g (suc j)) i
 
 -- places after one is set: what v and each element have, each has
-pub get_d_set_all : {A : Type 0} (P : A → Type 0) (l : List A) (i j : ℕ) (v d : A) → P v → P (get_or l j d) → P (get_or (set l i v) j d)
-get_d_set_all P [] i j v d h k = k
-get_d_set_all P (a ∷ l) zero zero v d h k = h
-get_d_set_all P (a ∷ l) zero (suc j) v d h k = k
-get_d_set_all P (a ∷ l) (suc i) zero v d h k = k
-get_d_set_all P (a ∷ l) (suc i) (suc j) v d h k = get_d_set_all P l i j v d h k
+pub get_or_set_all : {A : Type 0} (P : A → Type 0) (l : List A) (i j : ℕ) (v d : A) → P v → P (get_or l j d) → P (get_or (set l i v) j d)
+get_or_set_all P [] i j v d h k = k
+get_or_set_all P (a ∷ l) zero zero v d h k = h
+get_or_set_all P (a ∷ l) zero (suc j) v d h k = k
+get_or_set_all P (a ∷ l) (suc i) zero v d h k = k
+get_or_set_all P (a ∷ l) (suc i) (suc j) v d h k = get_or_set_all P l i j v d h k
 
 -- v is like the one that it takes the place of: each place is as it was
-pub get_d_set_alike : {A B : Type 0} (f : A → B) (l : List A) (i j : ℕ) (v d : A) → f v ≡ f (get_or l i d) → f (get_or (set l i v) j d) ≡ f (get_or l j d)
-get_d_set_alike f [] i j v d e = refl
-get_d_set_alike f (a ∷ l) zero zero v d e = e
-get_d_set_alike f (a ∷ l) zero (suc j) v d e = refl
-get_d_set_alike f (a ∷ l) (suc i) zero v d e = refl
-get_d_set_alike f (a ∷ l) (suc i) (suc j) v d e = get_d_set_alike f l i j v d e
+pub get_or_set_alike : {A B : Type 0} (f : A → B) (l : List A) (i j : ℕ) (v d : A) → f v ≡ f (get_or l i d) → f (get_or (set l i v) j d) ≡ f (get_or l j d)
+get_or_set_alike f [] i j v d e = refl
+get_or_set_alike f (a ∷ l) zero zero v d e = e
+get_or_set_alike f (a ∷ l) zero (suc j) v d e = refl
+get_or_set_alike f (a ∷ l) (suc i) zero v d e = refl
+get_or_set_alike f (a ∷ l) (suc i) (suc j) v d e = get_or_set_alike f l i j v d e
 
 -- what v and the default have, the place where v is set has
-pub get_d_set_here : {A : Type 0} (P : A → Type 0) (l : List A) (i : ℕ) (v d : A) → P v → P d → P (get_or (set l i v) i d)
-get_d_set_here P [] i v d h k = k
-get_d_set_here P (a ∷ l) zero v d h k = h
-get_d_set_here P (a ∷ l) (suc i) v d h k = get_d_set_here P l i v d h k
+pub get_or_set_here : {A : Type 0} (P : A → Type 0) (l : List A) (i : ℕ) (v d : A) → P v → P d → P (get_or (set l i v) i d)
+get_or_set_here P [] i v d h k = k
+get_or_set_here P (a ∷ l) zero v d h k = h
+get_or_set_here P (a ∷ l) (suc i) v d h k = get_or_set_here P l i v d h k
 
 -- the first that passes: it passes, and there is one where any is counted
 module _ {A : Type 0} (p : A → Bool) where

@@ -1,4 +1,4 @@
--- The rules of a well_formed_law table as counts over its two lists, from the test that computes them and back. A rule that is a count is kept
+-- The rules of a well-formed table as counts over its two lists, from the test that computes them and back. A rule that is a count is kept
 -- by a change in one line. Assumes nothing.
 use mathlib.Core.Path.{◌≡◌, refl, sym, ◌∙◌, ap}
 use mathlib.Core.Bool.{Bool, true, false, cond, ◌||◌}
