@@ -1,5 +1,5 @@
 // The door to the box: the box lent by a reference, one thin function for each call, which `door_c` exports to C. Each hands the box by value to
-// the call, and stores what the call gives. What comes back is a refusal's number, 0 where the call was done, and what was counted.
+// the call, and stores what the call gives; an order only looks at it. What comes back is a refusal's number, 0 where the call was done, and what was counted.
 #![tactic(auto)]
 
 mod records;
@@ -28,9 +28,12 @@ pub fn satbox_make(t: &mut SatBox, settings: Settings) -> u32
     ensures { (result ≡ number_in (made_of settings).outcome)
         × (t.new ≡ if_done (made_of settings).outcome (made_of settings).satbox t.old) }
 {
-    let s = turns::make(*t, settings);
-    *t = s.satbox;
-    s.refusal
+    let made = SatBox::fresh(settings);
+    let refusal = turns::number_in(made.outcome);
+    if refusal == 0 {
+        *t = made.satbox;
+    }
+    refusal
 }
 
 // Answers a request.
@@ -49,9 +52,9 @@ pub fn satbox_request(
         × (answer.new ≡ replied_into request.now clock address draw t.old answer.old journal.old)
         × (journal.new ≡ replied_journal request.now clock address draw t.old answer.old journal.old) }
 {
-    let s = turns::request(*t, request, clock, address, draw, answer, journal);
-    *t = s.satbox;
-    s.reply
+    let replied = satbox::request(*t, request, clock, address, draw, answer, journal);
+    *t = replied.satbox;
+    turns::reply_of(replied.outcome, replied.count)
 }
 
 // Closes every session that has expired.
@@ -60,9 +63,9 @@ pub fn satbox_tick(t: &mut SatBox, clock: u32, journal: &mut [u8]) -> u32
         × (t.new ≡ (ticked clock t.old journal.old).satbox)
         × (journal.new ≡ ticked_journal clock t.old journal.old) }
 {
-    let s = turns::tick(*t, clock, journal);
-    *t = s.satbox;
-    s.refusal
+    let ticked = satbox::tick(*t, clock, journal);
+    *t = ticked.satbox;
+    turns::number_in(ticked.outcome)
 }
 
 // Copies the bytes held to the front of a buffer, after which none are held.
@@ -71,18 +74,17 @@ pub fn satbox_collect(t: &mut SatBox, journal: &[u8], buffer: &mut [u8]) -> Repl
         × (t.new ≡ (collected t.old journal.now buffer.old).satbox)
         × (buffer.new ≡ collected_into t.old journal.now buffer.old) }
 {
-    let s = turns::collect(*t, journal, buffer);
-    *t = s.satbox;
-    s.reply
+    let collected = satbox::collect(*t, journal, buffer);
+    *t = collected.satbox;
+    turns::reply_of(collected.outcome, collected.count)
 }
 
 // What a frontend is to be set to.
 pub fn satbox_order(t: &mut SatBox, frontend: u32) -> Ordered
     ensures { (result ≡ ordered_as (order_of t.old frontend).outcome (order_of t.old frontend).stream) × (t.new ≡ t.old) }
 {
-    let s = turns::order(*t, frontend);
-    *t = s.satbox;
-    s.ordered
+    let order = orders::frontend_order(t, frontend);
+    turns::ordered_as(order.outcome, order.stream)
 }
 
 // Reads the record at a place; places count from 0.

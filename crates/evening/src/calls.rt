@@ -82,7 +82,7 @@ pub(crate) fn collect(
 }
 
 fn show_order(rt: &impl Print, label: &[u8], t: SatBox, n: u32) -> io::Result<()> {
-    let order = orders::frontend_order(t, n);
+    let order = orders::frontend_order(&t, n);
     let outcome = order.outcome;
     match outcome {
         Ordered::On => {

@@ -25,7 +25,7 @@ pub(crate) fn state(rt: &impl Print, t: SatBox) -> io::Result<()> {
     out::numbers(
         rt,
         b"clock sequence held open",
-        &[t.clock, t.sequence as u32, t.held, finding::count_open(t)],
+        &[t.clock, t.sequence as u32, t.held, finding::count_open(&t.sessions)],
     )?;
     out::text(rt, b"\n")
 }
@@ -137,7 +137,7 @@ pub(crate) fn table(rt: &impl Print, t: SatBox) -> io::Result<()> {
     out::number(rt, b"  frontends ", t.settings.frontends as u32)?;
     out::number(rt, b" size ", t.settings.size)?;
     reach(rt, t.settings)?;
-    if formed::is_well(formed::standing_of(t)) {
+    if formed::is_well(formed::standing_of(&t)) {
         out::text(rt, b", well formed")?;
     } else {
         out::text(rt, b", not well formed")?;

@@ -1,22 +1,23 @@
 // What is free among the places, the stream IDs, the frontends and the session numbers of a table.
 #![tactic(auto)]
 
-ghost use Rattle.std.specs.Prelude.{◌≡◌, ℕ, ◌≤◌, ◌∷◌, map, if◌then◌else◌, slice_index};
+ghost use Rattle.std.specs.Prelude.{◌≡◌, ℕ, ◌≤◌, ◌∷◌, length, map, if◌then◌else◌, slice_index};
 ghost use Rattle.scan.specs.Found.{FirstOf};
 ghost use Rattle.stream.specs.declared.Stream.{Stream};
 ghost use Rattle.table.specs.Reach.{set_of};
-ghost use Rattle.table.specs.Table.{has_number, is_free, is_dead, open_count, owns};
+ghost use Rattle.table.specs.Table.{count, has_number, is_free, is_dead, is_open, owns};
 ghost use Rattle.finding.specs.Finding.{lowest_id, is_held, choice, drawn};
 
-use table::{SatBox, Session};
+use stream::Stream;
+use table::{SatBox, Session, Settings};
 
 // The place of the session that has the number; 32 where none has it.
-pub fn place_of(t: SatBox, n: u32) -> usize
-    ensures { FirstOf (has_number n) t.sessions result }
+pub fn place_of(sessions: &[Session; 32], n: u32) -> usize
+    ensures { FirstOf (has_number n) sessions.now result }
 {
     let mut place = 0;
     while place < SatBox::SESSIONS {
-        if t.sessions[place].number == n {
+        if sessions[place].number == n {
             return place;
         }
         place += 1;
@@ -24,13 +25,14 @@ pub fn place_of(t: SatBox, n: u32) -> usize
     place
 }
 
-// The lowest free place; 32 where none is free. It has a walk of its own: a table that `place_of` is handed from here is copied, 1,500 bytes.
-pub fn lowest_place(t: SatBox) -> usize
-    ensures { FirstOf is_free t.sessions result }
+// The lowest free place; 32 where none is free.
+pub fn lowest_place(sessions: &[Session; 32]) -> usize
+    ensures first { FirstOf is_free sessions.now result }
+    ensures sized { length sessions.now ≡ 32 }
 {
     let mut lowest = 0;
     while lowest < SatBox::SESSIONS {
-        if t.sessions[lowest].number == 0 {
+        if sessions[lowest].number == 0 {
             return lowest;
         }
         lowest += 1;
@@ -39,12 +41,12 @@ pub fn lowest_place(t: SatBox) -> usize
 }
 
 // The place of the first stream that is not live; 8 where all are.
-fn first_dead(t: SatBox) -> usize
-    ensures { FirstOf is_dead t.streams result }
+fn first_dead(streams: &[Stream; 8]) -> usize
+    ensures { FirstOf is_dead streams.now result }
 {
     let mut i = 0;
     while i < SatBox::STREAMS {
-        if t.streams[i].frontend == 0 {
+        if streams[i].frontend == 0 {
             return i;
         }
         i += 1;
@@ -53,10 +55,10 @@ fn first_dead(t: SatBox) -> usize
 }
 
 // The lowest free stream ID; 9 where none is free.
-pub fn lowest_id(t: SatBox) -> u8
-    ensures { result ≡ lowest_id t.streams }
+pub fn lowest_id(streams: &[Stream; 8]) -> u8
+    ensures { result ≡ lowest_id streams.now }
 {
-    (first_dead(t) + 1) as u8
+    (first_dead(streams) + 1) as u8
 }
 
 // Whether an open session owns the stream of an ID.
@@ -67,13 +69,13 @@ pub fn owns(s: Session, id: u32) -> bool
 }
 
 // The frontend at each stream's place.
-fn frontends_of(t: SatBox) -> [u32; 8]
-    ensures { result ≡ map (λ (m : Stream). m.frontend) t.streams }
+fn frontends_of(streams: &[Stream; 8]) -> [u32; 8]
+    ensures { result ≡ map (λ (m : Stream). m.frontend) streams.now }
 {
     let mut frontends = [0u32; 8];
     let mut k = 0;
     while k < SatBox::STREAMS {
-        let m = t.streams[k];
+        let m = streams[k];
         frontends[k] = m.frontend as u32;
         k += 1;
     }
@@ -81,21 +83,20 @@ fn frontends_of(t: SatBox) -> [u32; 8]
 }
 
 // Whether a stream holds the frontend.
-pub fn is_held(t: SatBox, f: u32) -> bool
-    ensures { result ≡ is_held f t.streams }
+pub fn is_held(streams: &[Stream; 8], f: u32) -> bool
+    ensures { result ≡ is_held f streams.now }
 {
-    table::is_among(&frontends_of(t), f)
+    table::is_among(&frontends_of(streams), f)
 }
 
 // The set of each frontend by its place, empty where a stream holds the frontend.
-fn free_sets(t: SatBox) -> [u8; 8]
-    ensures { (f : ℕ) → slice_index (0 ∷ result) f ≡ (if is_held f t.streams then 0 else set_of t.settings f) }
+fn free_sets(streams: &[Stream; 8], settings: Settings) -> [u8; 8]
+    ensures { (f : ℕ) → slice_index (0 ∷ result) f ≡ (if is_held f streams.now then 0 else set_of settings f) }
 {
-    let settings = t.settings;
     let mut sets = settings.reach;
     let mut k = 0;
     while k < SatBox::STREAMS {
-        let m = t.streams[k];
+        let m = streams[k];
         let f = m.frontend as usize;
         k += 1;
         if f < 1 {
@@ -110,10 +111,10 @@ fn free_sets(t: SatBox) -> [u8; 8]
 }
 
 // Of the free frontends that reach a source, the one that reaches the fewest, of these the lowest; 0 where there is none.
-pub fn choice(t: SatBox, source: u32) -> u32
-    ensures { result ≡ choice t source }
+pub fn choice(t: &SatBox, source: u32) -> u32
+    ensures { result ≡ choice t.now source }
 {
-    let sets = free_sets(t);
+    let sets = free_sets(&t.streams, t.settings);
     let last = t.settings.frontends as u32;
     let mut best = 0;
     let mut least = 0;
@@ -131,8 +132,8 @@ pub fn choice(t: SatBox, source: u32) -> u32
 }
 
 // The first number, counting up from the draw, that is not 0 and that no session has; after 4294967295 comes 0.
-pub fn draw(t: SatBox, draw: u32) -> u32
-    ensures { result ≡ drawn t.sessions draw }
+pub fn draw(sessions: &[Session; 32], draw: u32) -> u32
+    ensures { result ≡ drawn sessions.now draw }
 {
     let mut n = draw;
     'draw: loop {
@@ -141,7 +142,7 @@ pub fn draw(t: SatBox, draw: u32) -> u32
             if i == SatBox::SESSIONS {
                 break 'draw n;
             }
-            if t.sessions[i].number == n {
+            if sessions[i].number == n {
                 break;
             }
             i += 1;
@@ -151,13 +152,13 @@ pub fn draw(t: SatBox, draw: u32) -> u32
 }
 
 // How many sessions are open.
-pub fn count_open(t: SatBox) -> u32
-    ensures { (result ≡ open_count t) × (result ≤ 32) }
+pub fn count_open(sessions: &[Session; 32]) -> u32
+    ensures { (result ≡ count is_open sessions.now) × (result ≤ 32) }
 {
     let mut n = 0;
     let mut i = 0;
     while i < SatBox::SESSIONS {
-        if t.sessions[i].number != 0 {
+        if sessions[i].number != 0 {
             n += 1;
         }
         i += 1;

@@ -158,9 +158,9 @@ fn is_placed(m: Stream, settings: Settings) -> bool
 }
 
 // Whether the streams are sound, each on a frontend that reaches its src; their frontends are put at their IDs.
-fn are_sound(streams: [Stream; 8], settings: Settings, feeds: &mut [u32]) -> bool
+fn are_sound(streams: &[Stream; 8], settings: Settings, feeds: &mut [u32]) -> bool
     requires { feeds.old ≡ replicate 9 0 }
-    ensures { (result ≡ all (is_placed settings) streams) × (result ≡ true → feeds.new ≡ 0 ∷ map (λ m. m.frontend) streams) }
+    ensures { (result ≡ all (is_placed settings) streams.now) × (result ≡ true → feeds.new ≡ 0 ∷ map (λ m. m.frontend) streams.now) }
 {
     let mut k = 0;
     while k < SatBox::STREAMS {
@@ -184,7 +184,7 @@ fn are_sound(streams: [Stream; 8], settings: Settings, feeds: &mut [u32]) -> boo
 // Looks at the sessions, with the streams' frontends at their IDs, and puts how many own each stream at its ID. The last places are passed over
 // eight at a time as long as nobody is there. Of the open sessions so far it keeps their numbers, how many they are, and the oldest last time.
 fn seats_of(
-    sessions: [Session; 32],
+    sessions: &[Session; 32],
     clock: u32,
     held: u32,
     size: u32,
@@ -192,11 +192,11 @@ fn seats_of(
     owners: &mut [u32],
 ) -> Standing
     requires { (length feeds.now ≡ 9) × (owners.old ≡ replicate 9 0) }
-    ensures { (result ≡ cond (are_distinct (map (λ s. s.number) sessions)
-        && (all (λ s. is_free s || not (is_zero (get_or feeds.now s.stream 0))) sessions
-        && (all (λ s. cond (is_free s) (is_blank s) (is_seated clock s)) sessions
-        && (eqb (held % 16) 0 && leb (held + 16 * count is_open sessions) size)))) (Well (oldest sessions)) Ill)
-        × (is_well result ≡ true → (id : ℕ) → id < 9 → get_or owners.new id 0 ≡ count (owns id) sessions) }
+    ensures { (result ≡ cond (are_distinct (map (λ s. s.number) sessions.now)
+        && (all (λ s. is_free s || not (is_zero (get_or feeds.now s.stream 0))) sessions.now
+        && (all (λ s. cond (is_free s) (is_blank s) (is_seated clock s)) sessions.now
+        && (eqb (held % 16) 0 && leb (held + 16 * count is_open sessions.now) size)))) (Well (oldest sessions.now)) Ill)
+        × (is_well result ≡ true → (id : ℕ) → id < 9 → get_or owners.new id 0 ≡ count (owns id) sessions.now) }
 {
     let mut end = SatBox::SESSIONS;
     while 8 <= end {
@@ -246,18 +246,16 @@ fn seats_of(
 }
 
 // Looks at a whole table. No stream has the ID 0.
-pub fn standing_of(t: SatBox) -> Standing
-    ensures { result ≡ standing_of t }
+pub fn standing_of(t: &SatBox) -> Standing
+    ensures { result ≡ standing_of t.now }
 {
-    let streams = t.streams;
     let mut feeds = [0u32; 9];
-    if !are_sound(streams, t.settings, &mut feeds) {
+    if !are_sound(&t.streams, t.settings, &mut feeds) {
         return Standing::Ill;
     }
-    let sessions = t.sessions;
     let mut owners = [0u32; 9];
     let standing = seats_of(
-        sessions,
+        &t.sessions,
         t.clock,
         t.held,
         t.settings.size,

@@ -257,7 +257,7 @@ pub finding_place_of : Unique finding_contracts.place_of.ended finding.place_of.
 finding_place_of κs a x y v w p q = same p.is q.is
 
 pub finding_lowest_place : Unique finding_contracts.lowest_place.ended finding.lowest_place.Reads.Post
-finding_lowest_place κs a x y v w p q = same p.is q.is
+finding_lowest_place κs a x y v w p q = same p.0.is q.0.is
 
 pub finding_lowest_id : Unique finding_contracts.lowest_id.ended finding.lowest_id.Reads.Post
 finding_lowest_id κs a x y v w = same
@@ -315,7 +315,7 @@ pub closings_is_expired : Unique closings_contracts.is_expired.ended closings.is
 closings_is_expired κs a x y v w = same
 
 pub closings_close_due : Unique closings_contracts.close_due.ended closings.close_due.Reads.Post
-closings_close_due κs a x y v w p q = (one p.satbox q.satbox, λ i. (tt, (one p.journal q.journal i, (tt, tt))))
+closings_close_due κs a x y v w p q = (refl, λ i. (one p.satbox q.satbox i, (one p.journal q.journal i, (tt, tt))))
 
 -- SERVING
 pub serving_turn_of : Unique serving_contracts.turn_of.ended serving.turn_of.Reads.Post

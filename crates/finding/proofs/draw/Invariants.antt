@@ -4,14 +4,14 @@ use Rattle.finding.proofs.Draws.{Drawing, to_pass}
 use Rattle.table.proofs.NumberLaws.{Lacking}
 use Rattle.finding.proofs.draw.Given as goal
 
-abbrev pub invariant-loop-t : goal.invariant-loop-t
-invariant-loop-t l = Lacking (has_number l.n) l.t.sessions l.i
+abbrev pub invariant-loop-i : goal.invariant-loop-i
+invariant-loop-i l = Lacking (has_number l.n) l.sessions l.i
 
-abbrev pub decreases-loop-t : goal.decreases-loop-t
-decreases-loop-t l = 32 - l.i
+abbrev pub decreases-loop-i : goal.decreases-loop-i
+decreases-loop-i l = 32 - l.i
 
 abbrev pub invariant-draw : goal.invariant-draw
-invariant-draw l = (length l.t.sessions ≡ 32) × ((more : ℕ) × Drawing l.t.sessions l.draw l.n more)
+invariant-draw l = (length l.sessions ≡ 32) × ((more : ℕ) × Drawing l.sessions l.draw l.n more)
 
 abbrev pub decreases-draw : goal.decreases-draw
-decreases-draw l = to_pass l.t.sessions l.draw l.n
+decreases-draw l = to_pass l.sessions l.draw l.n

@@ -4,7 +4,7 @@ use Rattle.table.specs.Table.{is_dead}
 use Rattle.finding.proofs.first_dead.Given as goal
 
 abbrev pub invariant-loop-i : goal.invariant-loop-i
-invariant-loop-i l = (length l.t.streams ≡ 8) × Seeking is_dead l.t.streams l.i
+invariant-loop-i l = (length l.streams ≡ 8) × Seeking is_dead l.streams l.i
 
 abbrev pub decreases-loop-i : goal.decreases-loop-i
 decreases-loop-i l = 8 - l.i
