@@ -25,7 +25,12 @@ pub(crate) fn state(rt: &impl Print, t: SatBox) -> io::Result<()> {
     out::numbers(
         rt,
         b"clock sequence held open",
-        &[t.clock, t.sequence as u32, t.held, finding::count_open(&t.sessions)],
+        &[
+            t.clock,
+            t.sequence as u32,
+            t.held,
+            finding::count_open(&t.sessions),
+        ],
     )?;
     out::text(rt, b"\n")
 }
