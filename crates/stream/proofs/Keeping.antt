@@ -3,6 +3,8 @@ use mathlib.Core.Path.{◌≡◌, refl, ap, ◌∙◌, sym}
 use mathlib.Core.Bool.{Bool, true, false, not, cond, ◌&&◌, ◌||◌, or-true}
 use mathlib.Core.List.{List, [], ◌∷◌}
 use Prim.Native.Nat.{ℕ, ◌-◌, ◌≤◌}
+use Rattle.std.specs.Prelude.{Result, Ok, Err}
+use Rattle.std.specs.Result.{result_unwrap_or}
 use native.Mathlib.Omega.{arith}
 use lib.Dec.{eqb, leb, ltb}
 use lib.ListN.{length, get_or, take, replicate, length-append, length-replicate}
@@ -19,8 +21,8 @@ use Rattle.stream.specs.Arrays.{read_pid, are_too_many, laid_out, are_fit, is_lo
 use Rattle.stream.specs.Streams.{is_sound, changed, merge_of}
 use Rattle.stream.specs.declared.Values.{Values}
 use Rattle.stream.specs.declared.Stream.{Stream}
-use Rattle.stream.specs.declared.Change.{Change}
-use Rattle.stream.specs.declared.Outcome.TheVariants.{Merged, Combination, TooMany}
+use Rattle.stream.specs.declared.Refusal.{Refusal}
+use Rattle.stream.specs.declared.Refusal.TheVariants.{Combination, TooMany}
 use Rattle.stream.proofs.Edits.{pid_most}
 use Rattle.stream.proofs.Fitting.{merged_ranged}
 use Rattle.stream.proofs.PidSets.{rises_added_all, rises_removed_all, all_added_all, all_removed_all}
@@ -106,27 +108,27 @@ fine_choice m v {c} h e = by c.all h.bare
     by true b = rw (b refl) refl
     by false b = laid
 
--- a query by the two rules that may refuse it, and the stream m or, where neither does, x
+-- a query by the two rules that may refuse it, and the stream x that it makes of m where neither does
 module _ (m x : Stream) where
-  abbrev settled : Bool → Bool → Change
-  settled broken many = cond broken (record { stream = m; outcome = Combination }) (cond many (record { stream = m; outcome = TooMany }) (record { stream = x; outcome = Merged }))
+  abbrev settled : Bool → Bool → Result Stream Refusal
+  settled broken many = cond broken (Err Combination) (cond many (Err TooMany) (Ok x))
 
-  settled_merged : (s t : Bool) → (settled s t).outcome ≡ Merged → (s ≡ false) × (t ≡ false)
-  settled_merged true t e = let z : ◌≡◌ {A = ℕ} 0 1 = cc in absurd (omega arith)
-  settled_merged false true e = let z : ◌≡◌ {A = ℕ} 0 1 = cc in absurd (omega arith)
-  settled_merged false false e = (refl, refl)
+  settled_merged : {y : Stream} (s t : Bool) → settled s t ≡ Ok y → (s ≡ false) × (t ≡ false) × (y ≡ x)
+  settled_merged true t e = cc
+  settled_merged false true e = cc
+  settled_merged false false e = (refl, refl, cc)
 
-  settled_refused : (s t : Bool) → ((settled s t).outcome ≡ Merged → ⊥) → (settled s t).stream ≡ m
+  settled_refused : (s t : Bool) → ((y : Stream) → settled s t ≡ Ok y → ⊥) → result_unwrap_or (settled s t) m ≡ m
   settled_refused true t f = refl
   settled_refused false true f = refl
-  settled_refused false false f = absurd (f refl)
+  settled_refused false false f = absurd (f x refl)
 
-  settled_frontend : (s t : Bool) → x.frontend ≡ m.frontend → (settled s t).stream.frontend ≡ m.frontend
+  settled_frontend : (s t : Bool) → x.frontend ≡ m.frontend → (result_unwrap_or (settled s t) m).frontend ≡ m.frontend
   settled_frontend true t e = refl
   settled_frontend false true e = refl
   settled_frontend false false e = e
 
-  settled_long : (s t : Bool) → length m.pids ≡ 32 → (t ≡ false → length x.pids ≡ 32) → length (settled s t).stream.pids ≡ 32
+  settled_long : (s t : Bool) → length m.pids ≡ 32 → (t ≡ false → length x.pids ≡ 32) → length (result_unwrap_or (settled s t) m).pids ≡ 32
   settled_long true t h f = h
   settled_long false true h f = h
   settled_long false false h f = f refl
@@ -141,21 +143,16 @@ module _ (m : Stream) (codes pids delpids addpids : List ℕ) where
   abbrev choice : Choice
   choice = chosen m codes pids delpids addpids
 
-  passes : (merge_of m codes pids delpids addpids).outcome ≡ Merged → (not (go_together values) ≡ false) × (are_too_many choice ≡ false)
+  passes : {x : Stream} → merge_of m codes pids delpids addpids ≡ Ok x → (not (go_together values) ≡ false) × (are_too_many choice ≡ false) × (x ≡ changed m values choice)
   unfolding merge_of
   passes = settled_merged m (changed m values choice) (not (go_together values)) (are_too_many choice)
 
-  merge_is : (merge_of m codes pids delpids addpids).outcome ≡ Merged → (merge_of m codes pids delpids addpids).stream ≡ changed m values choice
-  unfolding merge_of
-  merge_is e = let p = passes e in rw (p.0, p.1)
-
-  pub merge_sound : (f : ℕ) → is_sound f m ≡ true → (m.frontend ≡ 0 → ⊥) → are_fit codes ≡ true → (merge_of m codes pids delpids addpids).outcome ≡ Merged
-      → is_sound f (merge_of m codes pids delpids addpids).stream ≡ true
+  pub merge_sound : (f : ℕ) {x : Stream} → is_sound f m ≡ true → (m.frontend ≡ 0 → ⊥) → are_fit codes ≡ true → merge_of m codes pids delpids addpids ≡ Ok x → is_sound f x ≡ true
   unfolding changed
   merge_sound f s u k e =
       let p = passes e in
       let l : Live f m = sound_live f m s u in
-      rw (merge_is e)
+      rw p.2
       (live_sound
       (record {
         used = u;
@@ -167,20 +164,21 @@ module _ (m : Stream) (codes pids delpids addpids : List ℕ) where
             (chosen_fine m codes pids delpids addpids (choice_fine m l.choice)) p.1;
       }))
 
-  pub merge_src : (merge_of m codes pids delpids addpids).outcome ≡ Merged → (merge_of m codes pids delpids addpids).stream.values.src ≡ given (get_or codes 0 0) m.values.src
+  pub merge_src : {x : Stream} → merge_of m codes pids delpids addpids ≡ Ok x → x.values.src ≡ given (get_or codes 0 0) m.values.src
   unfolding changed merged
-  merge_src e = ap (λ (x : Stream). x.values.src) (merge_is e)
+  merge_src e = ap (λ (x : Stream). x.values.src) (passes e).2
 
-  pub merge_frontend : (merge_of m codes pids delpids addpids).stream.frontend ≡ m.frontend
+  -- the stream after a query: as it was where the query is not merged
+  pub merge_frontend : (result_unwrap_or (merge_of m codes pids delpids addpids) m).frontend ≡ m.frontend
   unfolding merge_of changed
   merge_frontend = settled_frontend m (changed m values choice) (not (go_together values)) (are_too_many choice) refl
 
-  pub merge_long : length m.pids ≡ 32 → length (merge_of m codes pids delpids addpids).stream.pids ≡ 32
+  pub merge_long : length m.pids ≡ 32 → length (result_unwrap_or (merge_of m codes pids delpids addpids) m).pids ≡ 32
   unfolding merge_of changed
   merge_long h = settled_long m (changed m values choice) (not (go_together values)) (are_too_many choice) h (laid_long choice.list)
 
   -- "a status other than 200 changes nothing"
-  pub merge_refused : ((merge_of m codes pids delpids addpids).outcome ≡ Merged → ⊥) → (merge_of m codes pids delpids addpids).stream ≡ m
+  pub merge_refused : ((x : Stream) → merge_of m codes pids delpids addpids ≡ Ok x → ⊥) → result_unwrap_or (merge_of m codes pids delpids addpids) m ≡ m
   unfolding merge_of
   merge_refused = settled_refused m (changed m values choice) (not (go_together values)) (are_too_many choice)
 
@@ -221,7 +219,7 @@ module _ (m : Stream) (sound : is_choice m ≡ true) (long : length m.pids ≡ 3
   unfolding changed
   same_changed = rw (as_laid, as_many, as_flag)
 
-  pub merge_nothing : (pids delpids addpids : List ℕ) → go_together m.values ≡ true → merge_of m (replicate 13 0) pids delpids addpids ≡ record { stream = m; outcome = Merged }
+  pub merge_nothing : (pids delpids addpids : List ℕ) → go_together m.values ≡ true → merge_of m (replicate 13 0) pids delpids addpids ≡ Ok m
   unfolding merge_of
   merge_nothing pids delpids addpids g =
       let q : merged m.values (replicate 13 0) ≡ m.values = no_values m.values in

@@ -3,6 +3,7 @@ use mathlib.Core.Path.{◌≡◌, refl, ap, ◌∙◌, sym, subst}
 use mathlib.Core.Bool.{Bool, true, false, not, cond}
 use mathlib.Core.List.{List, []}
 use Prim.Native.Nat.{ℕ, ◌≤◌, ◌<◌, min}
+use Rattle.std.specs.Prelude.{Ok, Err}
 use native.Mathlib.Omega.{arith}
 use native.Mathlib.Decide.{dec_lt}
 use lib.Dec.{eqb}
@@ -17,7 +18,7 @@ use Rattle.stream.specs.Streams.{changed, merge_of}
 use Rattle.stream.specs.declared.Values.{Values}
 use Rattle.stream.specs.declared.Stream.{Stream}
 use Rattle.stream.specs.declared.pids.Pids.{Pids}
-use Rattle.stream.specs.declared.Outcome.TheVariants.{Merged, Combination, TooMany}
+use Rattle.stream.specs.declared.Refusal.TheVariants.{Combination, TooMany}
 use Rattle.stream.proofs.Edits.{front_same, held_front}
 
 -- pids: all, none, or a list
@@ -82,18 +83,18 @@ module _ (m : Stream) (codes pids delpids addpids : List ℕ) {v : Values} {g : 
   combined : go_together (merged m.values codes) ≡ g
   combined = sym (together ∙ ap go_together values)
 
-  pub merge_apart : not g ≡ true → record { stream = m; outcome = Combination } ≡ merge_of m codes pids delpids addpids
+  pub merge_apart : not g ≡ true → Err Combination ≡ merge_of m codes pids delpids addpids
   unfolding merge_of
   merge_apart n = rw (combined, n)
 
   module _ (y : not g ≡ false) {p : Pids} (c : Chosen (chosen m codes pids delpids addpids) p) where
-    pub merge_over : 32 < p.count → record { stream = m; outcome = TooMany } ≡ merge_of m codes pids delpids addpids
+    pub merge_over : 32 < p.count → Err TooMany ≡ merge_of m codes pids delpids addpids
     unfolding merge_of
     merge_over h =
         rw (combined, y, lt-ltb 32 (length (chosen m codes pids delpids addpids).list) (omega (arith, c.held.count)))
 
     pub merge_done : {d : List ℕ} → p.count ≤ 32 → d ≡ laid_out (take p.count p.list)
-        → record { stream = record { pids = d; values = v; count = p.count; frontend = m.frontend; all = p.all }; outcome = Merged } ≡ merge_of m codes pids delpids addpids
+        → Ok (record { pids = d; values = v; count = p.count; frontend = m.frontend; all = p.all }) ≡ merge_of m codes pids delpids addpids
     unfolding merge_of changed
     merge_done {d} h e =
         let n : p.count ≡ length (chosen m codes pids delpids addpids).list = omega (arith, c.held.count) in

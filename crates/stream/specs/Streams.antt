@@ -1,12 +1,12 @@
 -- One stream's place: empty, newly opened, as a table may hold it; and what a query makes of it. Assumes nothing.
-use Rattle.std.specs.Prelude.{ℕ, ◌-◌, Bool, cond, ◌&&◌, not, [], List, ◌++◌, eqb, ltb, replicate, length}
+use Rattle.std.specs.Prelude.{ℕ, ◌-◌, Bool, cond, ◌&&◌, not, [], List, ◌++◌, eqb, ltb, replicate, length, Result, Ok, Err}
 use Rattle.scan.specs.Lists.{is_between, all}
 use Rattle.stream.specs.Values.{only_src, is_zero, are_none, are_in_range, go_together, merged}
 use Rattle.stream.specs.Pids.{is_choice, Choice, chosen}
 use Rattle.stream.specs.declared.Stream.{Stream}
 use Rattle.stream.specs.declared.Values.{Values}
-use Rattle.stream.specs.declared.Change.{Change}
-use Rattle.stream.specs.declared.Outcome.TheVariants.{Merged, Combination, TooMany}
+use Rattle.stream.specs.declared.Refusal.{Refusal}
+use Rattle.stream.specs.declared.Refusal.TheVariants.{Combination, TooMany}
 
 -- a place where no stream is: "unused places all zeros"
 abbrev pub no_stream : Stream
@@ -35,9 +35,9 @@ is_sound frontends m =
 unfoldable pub changed : Stream → Values → Choice → Stream
 changed m v c = record { pids = c.list ++ replicate (32 - length c.list) 0; values = v; count = length c.list; frontend = m.frontend; all = cond c.all 1 0 }
 
--- "Combination rule broken", then "More than 32 PIDs after merging"; in both the stream stays as it is
-unfoldable pub merge_of : Stream → List ℕ → List ℕ → List ℕ → List ℕ → Change
+-- a stream after a query: "Combination rule broken", then "More than 32 PIDs after merging"
+unfoldable pub merge_of : Stream → List ℕ → List ℕ → List ℕ → List ℕ → Result Stream Refusal
 merge_of m codes pids delpids addpids =
-    cond (not (go_together (merged m.values codes))) (record { stream = m; outcome = Combination })
-    (cond (ltb 32 (length (chosen m codes pids delpids addpids).list)) (record { stream = m; outcome = TooMany })
-    (record { stream = changed m (merged m.values codes) (chosen m codes pids delpids addpids); outcome = Merged }))
+    cond (not (go_together (merged m.values codes))) (Err Combination)
+    (cond (ltb 32 (length (chosen m codes pids delpids addpids).list)) (Err TooMany)
+    (Ok (changed m (merged m.values codes) (chosen m codes pids delpids addpids))))

@@ -118,53 +118,43 @@ pub fn is_sound(m: Stream, frontends: u16) -> bool
     is_padded(&m.pids, m.count as usize)
 }
 
-// What became of a query: merged, or why it was not.
-#[derive(Clone, Copy)]
-pub enum Outcome {
-    Merged,
+// Why a query is not merged.
+#[derive(Clone, Copy, PartialEq, Eq, Debug)]
+pub enum Refusal {
+    // The combination rule would be broken.
     Combination,
+    // The stream would have more than 32 PIDs.
     TooMany,
 }
 
-// A stream after a query; as it was where the query is not merged.
-#[derive(Clone, Copy)]
-pub struct Change {
-    pub stream: Stream,
-    pub outcome: Outcome,
-}
-
 // Merges a query into a stream: its codes by the attribute's place in document 01's table, 0 where one is not given, and its lists of
-// PIDs as they are written. They are obeyed entry by entry, so that a list may be of any length.
-pub fn merge(m: Stream, codes: [u32; 13], pids: &[u8], delpids: &[u8], addpids: &[u8]) -> Change
+// PIDs as they are written. They are obeyed entry by entry, so that a list may be of any length. Gives the stream after it.
+pub fn merge(
+    m: Stream,
+    codes: [u32; 13],
+    pids: &[u8],
+    delpids: &[u8],
+    addpids: &[u8],
+) -> Result<Stream, Refusal>
     ensures { result ≡ merge_of m codes pids.now delpids.now addpids.now }
 {
     let old = m.values;
     let values = merged(old, codes);
     if !go_together(values) {
-        return Change {
-            stream: m,
-            outcome: Outcome::Combination,
-        };
+        return Err(Refusal::Combination);
     }
     let chosen = choose(m, codes, pids, delpids, addpids);
     let count = chosen.count;
     if Stream::PIDS < count {
-        return Change {
-            stream: m,
-            outcome: Outcome::TooMany,
-        };
+        return Err(Refusal::TooMany);
     }
     let mut list = chosen.list;
     clear_from(&mut list, count);
-    let stream = Stream {
+    Ok(Stream {
         pids: list,
         values,
         count: count as u16,
         frontend: m.frontend,
         all: chosen.all,
-    };
-    Change {
-        stream,
-        outcome: Outcome::Merged,
-    }
+    })
 }
