@@ -4,7 +4,7 @@ use mathlib.Core.Bool.{Bool, true, false, not, cond, ◌&&◌, ◌||◌, or-true
 use mathlib.Core.List.{List, [], ◌∷◌}
 use Prim.Native.Nat.{ℕ, ◌-◌, ◌≤◌}
 use Rattle.std.specs.Prelude.{Result, Ok, Err}
-use Rattle.std.specs.Result.{result_unwrap_or}
+use Rattle.std.specs.Result.{IsOk, result_unwrap_or}
 use native.Mathlib.Omega.{arith}
 use lib.Dec.{eqb, leb, ltb}
 use lib.ListN.{length, get_or, take, replicate, length-append, length-replicate}
@@ -18,7 +18,7 @@ use Rattle.digits.specs.declared.Read.TheVariants.{Value, Nothing}
 use Rattle.stream.specs.Values.{go_together, given, merged}
 use Rattle.stream.specs.Pids.{added, removed, with_number, numbers_in, obeyed, Choice, replaced, edited, chosen, choice_of, is_padded, is_choice}
 use Rattle.stream.specs.Arrays.{read_pid, are_too_many, laid_out, are_fit, is_low, rises, numbers_read, added_all}
-use Rattle.stream.specs.Streams.{is_sound, changed, merge_of}
+use Rattle.stream.specs.Streams.{is_sound, changed, merge_of, after_query}
 use Rattle.stream.specs.declared.Values.{Values}
 use Rattle.stream.specs.declared.Stream.{Stream}
 use Rattle.stream.specs.declared.Refusal.{Refusal}
@@ -113,15 +113,15 @@ module _ (m x : Stream) where
   abbrev settled : Bool → Bool → Result Stream Refusal
   settled broken many = cond broken (Err Combination) (cond many (Err TooMany) (Ok x))
 
-  settled_merged : {y : Stream} (s t : Bool) → settled s t ≡ Ok y → (s ≡ false) × (t ≡ false) × (y ≡ x)
-  settled_merged true t e = cc
-  settled_merged false true e = cc
-  settled_merged false false e = (refl, refl, cc)
+  settled_merged : (s t : Bool) → IsOk (settled s t) → (s ≡ false) × (t ≡ false)
+  settled_merged true t e = never e refl
+  settled_merged false true e = never e refl
+  settled_merged false false e = (refl, refl)
 
-  settled_refused : (s t : Bool) → ((y : Stream) → settled s t ≡ Ok y → ⊥) → result_unwrap_or (settled s t) m ≡ m
+  settled_refused : (s t : Bool) → (IsOk (settled s t) → ⊥) → result_unwrap_or (settled s t) m ≡ m
   settled_refused true t f = refl
   settled_refused false true f = refl
-  settled_refused false false f = absurd (f x refl)
+  settled_refused false false f = absurd (f refl)
 
   settled_frontend : (s t : Bool) → x.frontend ≡ m.frontend → (result_unwrap_or (settled s t) m).frontend ≡ m.frontend
   settled_frontend true t e = refl
@@ -143,16 +143,21 @@ module _ (m : Stream) (codes pids delpids addpids : List ℕ) where
   abbrev choice : Choice
   choice = chosen m codes pids delpids addpids
 
-  passes : {x : Stream} → merge_of m codes pids delpids addpids ≡ Ok x → (not (go_together values) ≡ false) × (are_too_many choice ≡ false) × (x ≡ changed m values choice)
+  passes : IsOk (merge_of m codes pids delpids addpids) → (not (go_together values) ≡ false) × (are_too_many choice ≡ false)
   unfolding merge_of
   passes = settled_merged m (changed m values choice) (not (go_together values)) (are_too_many choice)
 
-  pub merge_sound : (f : ℕ) {x : Stream} → is_sound f m ≡ true → (m.frontend ≡ 0 → ⊥) → are_fit codes ≡ true → merge_of m codes pids delpids addpids ≡ Ok x → is_sound f x ≡ true
+  merge_is : IsOk (merge_of m codes pids delpids addpids) → after_query m codes pids delpids addpids ≡ changed m values choice
+  unfolding merge_of
+  merge_is e = let p = passes e in rw (p.0, p.1)
+
+  pub merge_sound : (f : ℕ) → is_sound f m ≡ true → (m.frontend ≡ 0 → ⊥) → are_fit codes ≡ true → IsOk (merge_of m codes pids delpids addpids)
+      → is_sound f (after_query m codes pids delpids addpids) ≡ true
   unfolding changed
   merge_sound f s u k e =
       let p = passes e in
       let l : Live f m = sound_live f m s u in
-      rw p.2
+      rw (merge_is e)
       (live_sound
       (record {
         used = u;
@@ -164,21 +169,20 @@ module _ (m : Stream) (codes pids delpids addpids : List ℕ) where
             (chosen_fine m codes pids delpids addpids (choice_fine m l.choice)) p.1;
       }))
 
-  pub merge_src : {x : Stream} → merge_of m codes pids delpids addpids ≡ Ok x → x.values.src ≡ given (get_or codes 0 0) m.values.src
+  pub merge_src : IsOk (merge_of m codes pids delpids addpids) → (after_query m codes pids delpids addpids).values.src ≡ given (get_or codes 0 0) m.values.src
   unfolding changed merged
-  merge_src e = ap (λ (x : Stream). x.values.src) (passes e).2
+  merge_src e = ap (λ (x : Stream). x.values.src) (merge_is e)
 
-  -- the stream after a query: as it was where the query is not merged
-  pub merge_frontend : (result_unwrap_or (merge_of m codes pids delpids addpids) m).frontend ≡ m.frontend
+  pub merge_frontend : (after_query m codes pids delpids addpids).frontend ≡ m.frontend
   unfolding merge_of changed
   merge_frontend = settled_frontend m (changed m values choice) (not (go_together values)) (are_too_many choice) refl
 
-  pub merge_long : length m.pids ≡ 32 → length (result_unwrap_or (merge_of m codes pids delpids addpids) m).pids ≡ 32
+  pub merge_long : length m.pids ≡ 32 → length (after_query m codes pids delpids addpids).pids ≡ 32
   unfolding merge_of changed
   merge_long h = settled_long m (changed m values choice) (not (go_together values)) (are_too_many choice) h (laid_long choice.list)
 
   -- "a status other than 200 changes nothing"
-  pub merge_refused : ((x : Stream) → merge_of m codes pids delpids addpids ≡ Ok x → ⊥) → result_unwrap_or (merge_of m codes pids delpids addpids) m ≡ m
+  pub merge_refused : (IsOk (merge_of m codes pids delpids addpids) → ⊥) → after_query m codes pids delpids addpids ≡ m
   unfolding merge_of
   merge_refused = settled_refused m (changed m values choice) (not (go_together values)) (are_too_many choice)
 

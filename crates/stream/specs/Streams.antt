@@ -1,5 +1,6 @@
 -- One stream's place: empty, newly opened, as a table may hold it; and what a query makes of it. Assumes nothing.
 use Rattle.std.specs.Prelude.{ℕ, ◌-◌, Bool, cond, ◌&&◌, not, [], List, ◌++◌, eqb, ltb, replicate, length, Result, Ok, Err}
+use Rattle.std.specs.Result.{result_unwrap_or}
 use Rattle.scan.specs.Lists.{is_between, all}
 use Rattle.stream.specs.Values.{only_src, is_zero, are_none, are_in_range, go_together, merged}
 use Rattle.stream.specs.Pids.{is_choice, Choice, chosen}
@@ -35,9 +36,13 @@ is_sound frontends m =
 unfoldable pub changed : Stream → Values → Choice → Stream
 changed m v c = record { pids = c.list ++ replicate (32 - length c.list) 0; values = v; count = length c.list; frontend = m.frontend; all = cond c.all 1 0 }
 
--- a stream after a query: "Combination rule broken", then "More than 32 PIDs after merging"
+-- a query merged into a stream: "Combination rule broken", then "More than 32 PIDs after merging"
 unfoldable pub merge_of : Stream → List ℕ → List ℕ → List ℕ → List ℕ → Result Stream Refusal
 merge_of m codes pids delpids addpids =
     cond (not (go_together (merged m.values codes))) (Err Combination)
     (cond (ltb 32 (length (chosen m codes pids delpids addpids).list)) (Err TooMany)
     (Ok (changed m (merged m.values codes) (chosen m codes pids delpids addpids))))
+
+-- a stream after a query: in both the stream stays as it is
+abbrev pub after_query : Stream → List ℕ → List ℕ → List ℕ → List ℕ → Stream
+after_query m codes pids delpids addpids = result_unwrap_or (merge_of m codes pids delpids addpids) m
