@@ -1,5 +1,6 @@
 -- Document 01: what an opening takes, steps 16 to 18, what a request does where nothing refuses it, and all eighteen steps in a row. Assumes nothing.
-use Rattle.std.specs.Prelude.{ℕ, ◌+◌, ◌*◌, Bool, not, ◌&&◌, cond, ◌||◌, leb, ltb, eqb, length, set, List}
+use Rattle.std.specs.Prelude.{ℕ, ◌+◌, ◌*◌, Bool, not, ◌&&◌, cond, ◌||◌, leb, ltb, eqb, length, set, List, Result, Ok, Err}
+use Rattle.std.specs.Result.{result_unwrap_or}
 use Rattle.journal.specs.Records.{record_size}
 use Rattle.stream.specs.declared.Stream.{Stream}
 use Rattle.table.specs.Table.{open_count, stream_of, is_live, no_session, owns, box_with, session_with}
@@ -16,9 +17,8 @@ use Rattle.aim.specs.declared.Method.TheVariants.{Options, Setup, Play, Teardown
 use Rattle.reader.specs.Request.{request_refusal}
 use Rattle.stream.specs.Values.{given}
 use Rattle.stream.specs.Streams.{blank, merge_of}
-use Rattle.stream.specs.declared.Change.{Change}
-use Rattle.stream.specs.declared.Outcome.{Outcome}
-use Rattle.stream.specs.declared.Outcome.TheVariants.{Merged, Combination as Clash, TooMany}
+use Rattle.stream.specs.declared.Refusal.{Refusal}
+use Rattle.stream.specs.declared.Refusal.TheVariants.{Combination as Clash, TooMany}
 use Rattle.steps.specs.Sights.{Asked, Lists, asked_of, lists_of, port_of, sight_of}
 use Rattle.steps.specs.Steps.{is_passed, is_setup, is_named, table_case}
 use Rattle.steps.specs.declared.Sight.{Sight}
@@ -71,18 +71,25 @@ feed_of t v = cond (eqb v.fe 0) (choice t (source_of v)) v.fe
 abbrev pub unmerged : SatBox → Asked → Stream
 unmerged t a = cond (eqb a.stream 0) (blank (feed_of t (sight_of t a))) (stream_of t a.stream)
 
-unfoldable pub merging : SatBox → Asked → Lists → Change
+unfoldable pub merging : SatBox → Asked → Lists → Result Stream Refusal
 merging t a l = merge_of (unmerged t a) a.codes l.pids l.delpids l.addpids
+
+-- the stream after it, which stays as it is where the query is not merged
+abbrev pub stream_after : SatBox → Asked → Lists → Stream
+stream_after t a l = result_unwrap_or (merging t a l) (unmerged t a)
 
 -- whose query is merged, by SETUP or PLAY: a new stream's, and "the owner's"; "SETUP on a live stream without Session joins it, never owning it"
 abbrev pub merges : Sight → Bool
 merges v = (eqb (method_number v.method) 1 || eqb (method_number v.method) 2) && (eqb v.stream 0 || owns v.stream v.session)
 
 -- 16: "Combination rule broken"; 17: "More than 32 PIDs after merging"
-abbrev pub merge_case : Outcome → Case
-merge_case Merged = Passed
-merge_case Clash = Combination
-merge_case TooMany = TooManyPids
+abbrev pub refusal_case : Refusal → Case
+refusal_case Clash = Combination
+refusal_case TooMany = TooManyPids
+
+abbrev pub merge_case : Result Stream Refusal → Case
+merge_case (Ok m) = Passed
+merge_case (Err refusal) = refusal_case refusal
 
 -- 17, by order 1: "a later src that the held frontend does not reach"
 abbrev pub is_unreached : Sight → Bool
@@ -101,7 +108,7 @@ can_seat t v = cond (eqb v.stream 0) (can_open (source_of v) (feed_of t v) t) (c
 unfoldable pub case_of : SatBox → Asked → Lists → Case
 case_of t a l =
     not (is_passed (table_case (sight_of t a))) gives table_case (sight_of t a) or
-    (merges (sight_of t a) && not (is_passed (merge_case (merging t a l).outcome))) gives merge_case (merging t a l).outcome or
+    (merges (sight_of t a) && not (is_passed (merge_case (merging t a l)))) gives merge_case (merging t a l) or
     (merges (sight_of t a) && (not (eqb a.stream 0) && is_unreached (sight_of t a))) gives NotReached or
     (is_opening (sight_of t a) && not (can_seat t (sight_of t a))) gives Full or
     Passed
@@ -134,7 +141,7 @@ granted d s = record { did = d; session = s; case = Passed }
 
 -- "for the owner, merges the query"; "PLAY merges the owner's query and marks the session playing"
 abbrev pub retuned : SatBox → Asked → Lists → SatBox
-retuned t a l = cond (merges (sight_of t a)) (restreamed a.stream (merging t a l).stream t) t
+retuned t a l = cond (merges (sight_of t a)) (restreamed a.stream (stream_after t a l) t) t
 
 abbrev pub retuning : SatBox → Asked → Lists → Serving
 retuning t a l = granted (nothing (with_session (sight_of t a).place (seat_after (sight_of t a)) (retuned t a l))) (seat_after (sight_of t a))
@@ -143,7 +150,7 @@ retuning t a l = granted (nothing (with_session (sight_of t a).place (seat_after
 abbrev pub seating : SatBox → Asked → Lists → Client → Serving
 seating t a l client =
     cond (eqb a.stream 0)
-    (granted (opening (merging t a l).stream client t) (guest 1 (lowest_id t.streams) client t))
+    (granted (opening (stream_after t a l) client t) (guest 1 (lowest_id t.streams) client t))
     (granted (joining a.stream client t) (guest 0 a.stream client t))
 
 -- "TEARDOWN closes": cause 1

@@ -1,6 +1,6 @@
 -- What a request comes to, as the few numbers that its change needs: what an opening would take, and its turn, beside the meaning's. Assumes
 -- nothing.
-use Rattle.std.specs.Prelude.{ℕ, ◌+◌, ◌≤◌, ◌<◌, ◌≡◌, Bool, true, false, not, cond, ◌&&◌, ◌||◌, List, eqb, ltb, length, get_or}
+use Rattle.std.specs.Prelude.{ℕ, ◌+◌, ◌≤◌, ◌<◌, ◌≡◌, Bool, true, false, not, cond, ◌&&◌, ◌||◌, List, eqb, ltb, length, get_or, Result, Ok, Err}
 use Rattle.refusals.specs.Refusals as reading
 use Rattle.aim.specs.Aim.{method_number}
 use Rattle.aim.specs.declared.Method.{Method}
@@ -11,9 +11,7 @@ use Rattle.reader.specs.declared.Request.{Request}
 use Rattle.journal.specs.Records.{record_size}
 use Rattle.stream.specs.Streams.{no_stream, blank}
 use Rattle.stream.specs.declared.Stream.{Stream}
-use Rattle.stream.specs.declared.Change.{Change}
-use Rattle.stream.specs.declared.Outcome.{Outcome}
-use Rattle.stream.specs.declared.Outcome.TheVariants.{Merged, Combination as Clash, TooMany}
+use Rattle.stream.specs.declared.Refusal.{Refusal as Unmerged}
 use Rattle.table.specs.Table.{no_session, stream_of, owns, session_with}
 use Rattle.table.specs.Formed.{well_formed}
 use Rattle.finding.specs.Finding.{lowest_place, lowest_id}
@@ -24,10 +22,10 @@ use Rattle.steps.specs.Steps.{is_passed, is_named, table_case}
 use Rattle.steps.specs.Sights.{sight_of, Asked, Lists}
 use Rattle.steps.specs.declared.Sight.{Sight}
 use Rattle.steps.specs.declared.cases.Case.{Case}
-use Rattle.steps.specs.declared.cases.Case.TheVariants.{Passed, Combination, TooManyPids, NotReached, Full, Reading}
+use Rattle.steps.specs.declared.cases.Case.TheVariants.{Passed, NotReached, Full, Reading}
 use Rattle.closings.specs.Closing.{Did, nothing, restreamed, noting, closing}
 use Rattle.closings.specs.Does.{Closable}
-use Rattle.serving.specs.Serving.{has_place, has_room, guest, can_open, Serving, source_of, feed_of, merging, merges, merge_case, is_unreached, is_opening, can_seat, with_session, seat_after}
+use Rattle.serving.specs.Serving.{has_place, has_room, guest, can_open, Serving, source_of, feed_of, merging, merges, refusal_case, merge_case, is_unreached, is_opening, can_seat, with_session, seat_after}
 use Rattle.serving.specs.declared.opening.Client.{Client}
 use Rattle.serving.specs.declared.opening.Offer.{Offer}
 use Rattle.serving.specs.declared.Turn.{Turn}
@@ -36,7 +34,7 @@ use Rattle.scan.specs.Lists.{◌gives◌or◌}
 -- steps 16 to 18 alone
 abbrev pub change_case : SatBox → Asked → Lists → Case
 change_case t a l =
-    (merges (sight_of t a) && not (is_passed (merge_case (merging t a l).outcome))) gives merge_case (merging t a l).outcome or
+    (merges (sight_of t a) && not (is_passed (merge_case (merging t a l)))) gives merge_case (merging t a l) or
     (merges (sight_of t a) && (not (eqb a.stream 0) && is_unreached (sight_of t a))) gives NotReached or
     (is_opening (sight_of t a) && not (can_seat t (sight_of t a))) gives Full or
     Passed
@@ -119,25 +117,24 @@ left_as v =
     record { stream = no_stream; seat = no_session; session = v.session; place = v.place; id = 0; kind = 3; case = Passed }
 
 -- a turn that rests on a merged query
-abbrev pub if_merged : Sight → Outcome → Turn → Turn
-if_merged v Merged x = x
-if_merged v Clash x = denied_as v Combination
-if_merged v TooMany x = denied_as v TooManyPids
+abbrev pub if_merged : Sight → Result Stream Unmerged → (Stream → Turn) → Turn
+if_merged v (Ok m) turn = turn m
+if_merged v (Err refusal) turn = denied_as v (refusal_case refusal)
 
 -- a SETUP for a new stream, and a SETUP or a PLAY of an open session, where c is what its query was merged to
-unfoldable pub opened_by : Sight → Change → Offer → Turn
-opened_by v c o = if_merged v c.outcome (seated_as v o 1 o.seat.stream c.stream)
+unfoldable pub opened_by : Sight → Result Stream Unmerged → Offer → Turn
+opened_by v c o = if_merged v c (λ m. seated_as v o 1 o.seat.stream m)
 
-unfoldable pub retuned_by : Sight → Change → Turn
+unfoldable pub retuned_by : Sight → Result Stream Unmerged → Turn
 retuned_by v c =
     cond (owns v.stream v.session)
-    (if_merged v c.outcome (cond (is_unreached v) (denied_as v NotReached) (retuned_as v c.stream)))
+    (if_merged v c (λ m. cond (is_unreached v) (denied_as v NotReached) (retuned_as v m)))
     (reseated_as v.place (seat_after v) (seat_after v))
 
-unfoldable pub set_up_by : Sight → Change → Offer → Turn
+unfoldable pub set_up_by : Sight → Result Stream Unmerged → Offer → Turn
 set_up_by v c o = cond (is_named v) (retuned_by v c) (cond (eqb v.stream 0) (opened_by v c o) (seated_as v o 2 0 no_stream))
 
-abbrev pub method_turn : Method → Sight → Change → Offer → Turn
+abbrev pub method_turn : Method → Sight → Result Stream Unmerged → Offer → Turn
 method_turn Options v c o = reseated_as v.place v.session v.session
 method_turn Setup v c o = set_up_by v c o
 method_turn Play v c o = retuned_by v c
@@ -145,7 +142,7 @@ method_turn Teardown v c o = left_as v
 method_turn Other v c o = denied_as v Passed
 
 -- THE TURN of a request that steps 1 to 15 let through or refused
-unfoldable pub turn_by : Sight → Change → Offer → Case → Turn
+unfoldable pub turn_by : Sight → Result Stream Unmerged → Offer → Case → Turn
 turn_by v c o case = cond (is_passed case) (method_turn v.method v c o) (denied_as v case)
 
 -- what a turn does: kind 3 closes; else the stream is set, and then the session in its place, with a record where there is a kind

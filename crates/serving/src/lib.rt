@@ -6,13 +6,13 @@
 mod opening;
 
 ghost use Rattle.std.specs.Prelude.{◌≡◌};
-ghost use Rattle.serving.specs.Serving.{is_unreached, seat_after};
+ghost use Rattle.serving.specs.Serving.{refusal_case, is_unreached, seat_after};
 ghost use Rattle.serving.specs.Turns.{at_port, playing, denied_as, reseated_as, seated_as, left_as, opened_by, retuned_by, set_up_by, turn_by};
 
 use aim::Method;
 pub use opening::{Client, Offer, offer_of};
 use steps::{Case, Sight};
-use stream::{Change, Outcome, Stream};
+use stream::{Refusal, Stream};
 use table::{SatBox, Session};
 
 // What a request comes to: why it was refused, and the session that its answer is about, none where it was refused. And the change: the
@@ -91,16 +91,23 @@ fn seat(v: Sight, o: Offer, kind: u8, id: u32, m: Stream) -> Turn
     }
 }
 
-// A SETUP for a new stream.
-fn open_stream(v: Sight, change: Change, o: Offer) -> Turn
-    ensures { result ≡ opened_by v change o }
+// The case of a query that is not merged.
+fn refusal_case(refusal: Refusal) -> Case
+    ensures { result ≡ refusal_case refusal }
 {
-    let outcome = change.outcome;
-    let session = o.seat;
-    match outcome {
-        Outcome::Combination => deny(v, Case::Combination),
-        Outcome::TooMany => deny(v, Case::TooManyPids),
-        Outcome::Merged => seat(v, o, 1, session.stream as u32, change.stream),
+    match refusal {
+        Refusal::Combination => Case::Combination,
+        Refusal::TooMany => Case::TooManyPids,
+    }
+}
+
+// A SETUP for a new stream.
+fn open_stream(v: Sight, merged: Result<Stream, Refusal>, o: Offer) -> Turn
+    ensures { result ≡ opened_by v merged o }
+{
+    match merged {
+        Ok(m) => seat(v, o, 1, o.seat.stream as u32, m),
+        Err(refusal) => deny(v, refusal_case(refusal)),
     }
 }
 
@@ -143,23 +150,19 @@ fn is_unreached(v: Sight) -> bool
 }
 
 // A SETUP or a PLAY of an open session: its owner's query is merged into its stream.
-fn retune(v: Sight, change: Change) -> Turn
-    ensures { result ≡ retuned_by v change }
+fn retune(v: Sight, merged: Result<Stream, Refusal>) -> Turn
+    ensures { result ≡ retuned_by v merged }
 {
     let session = v.session;
     let next = after(v);
     if !finding::owns(session, v.stream) {
         return reseat(v.place, next, next);
     }
-    let outcome = change.outcome;
-    match outcome {
-        Outcome::Combination => deny(v, Case::Combination),
-        Outcome::TooMany => deny(v, Case::TooManyPids),
-        Outcome::Merged => {
+    match merged {
+        Ok(stream) => {
             if is_unreached(v) {
                 return deny(v, Case::NotReached);
             }
-            let stream = change.stream;
             Turn {
                 stream,
                 seat: next,
@@ -170,6 +173,7 @@ fn retune(v: Sight, change: Change) -> Turn
                 case: Case::Passed,
             }
         }
+        Err(refusal) => deny(v, refusal_case(refusal)),
     }
 }
 
@@ -190,21 +194,21 @@ fn leave(v: Sight) -> Turn
 }
 
 // A SETUP: in a session, for a new stream, or on a live one.
-fn set_up(v: Sight, change: Change, o: Offer) -> Turn
-    ensures { result ≡ set_up_by v change o }
+fn set_up(v: Sight, merged: Result<Stream, Refusal>, o: Offer) -> Turn
+    ensures { result ≡ set_up_by v merged o }
 {
     if v.place < SatBox::SESSIONS {
-        return retune(v, change);
+        return retune(v, merged);
     }
     if v.stream == 0 {
-        return open_stream(v, change, o);
+        return open_stream(v, merged, o);
     }
     seat(v, o, 2, 0, Stream::NONE)
 }
 
-// What a request comes to: `change` is what its query was merged to, o what an opening would take.
-pub fn turn_of(v: Sight, change: Change, o: Offer, case: Case) -> Turn
-    ensures { result ≡ turn_by v change o case }
+// What a request comes to: `merged` is the stream with its query, or why it is not merged; o what an opening would take.
+pub fn turn_of(v: Sight, merged: Result<Stream, Refusal>, o: Offer, case: Case) -> Turn
+    ensures { result ≡ turn_by v merged o case }
 {
     if !steps::is_passed(case) {
         return deny(v, case);
@@ -213,8 +217,8 @@ pub fn turn_of(v: Sight, change: Change, o: Offer, case: Case) -> Turn
     let session = v.session;
     match method {
         Method::Options => reseat(v.place, session, session),
-        Method::Setup => set_up(v, change, o),
-        Method::Play => retune(v, change),
+        Method::Setup => set_up(v, merged, o),
+        Method::Play => retune(v, merged),
         Method::Teardown => leave(v),
         Method::Other => deny(v, Case::Passed),
     }

@@ -1,14 +1,10 @@
 use Rattle.serving.specs.Turns.{opened_by}
 use Rattle.serving.proofs.open_stream.Goals as goal
 
-pub returns-in-Combination : goal.returns-in-Combination
+pub returns-in-Ok : goal.returns-in-Ok
 unfolding opened_by
-returns-in-Combination c = rw c.in-Combination.is c.deny.ensures
+returns-in-Ok c = rw c.in-Ok.is c.seat.ensures
 
-pub returns-in-TooMany : goal.returns-in-TooMany
+pub returns-in-Err : goal.returns-in-Err
 unfolding opened_by
-returns-in-TooMany c = rw c.in-TooMany.is c.deny-in-TooMany.ensures
-
-pub returns-in-Merged : goal.returns-in-Merged
-unfolding opened_by
-returns-in-Merged c = rw c.in-Merged.is c.seat.ensures
+returns-in-Err c = rw (c.in-Err.is, ← c.refusal_case.ensures) c.deny.ensures

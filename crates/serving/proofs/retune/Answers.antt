@@ -10,16 +10,12 @@ returns-then-not-owns c = rw (failed c.owns.ensures (ap not c.if-not-owns.true))
 
 pub returns-then-is_unreached : goal.returns-then-is_unreached
 unfolding retuned_by
-returns-then-is_unreached c = rw (held c.owns.ensures (ap not c.if-not-owns.false), c.in-Merged.is, sym c.is_unreached.ensures ∙ c.if-is_unreached.true) c.deny-then-is_unreached.ensures
+returns-then-is_unreached c = rw (held c.owns.ensures (ap not c.if-not-owns.false), c.in-Ok.is, sym c.is_unreached.ensures ∙ c.if-is_unreached.true) c.deny.ensures
 
-pub returns-in-Combination : goal.returns-in-Combination
+pub returns-in-Err : goal.returns-in-Err
 unfolding retuned_by
-returns-in-Combination c = rw (held c.owns.ensures (ap not c.if-not-owns.false), c.in-Combination.is) c.deny.ensures
-
-pub returns-in-TooMany : goal.returns-in-TooMany
-unfolding retuned_by
-returns-in-TooMany c = rw (held c.owns.ensures (ap not c.if-not-owns.false), c.in-TooMany.is) c.deny-in-TooMany.ensures
+returns-in-Err c = rw (held c.owns.ensures (ap not c.if-not-owns.false), c.in-Err.is, ← c.refusal_case.ensures) c.deny-in-Err.ensures
 
 pub returns-else-is_unreached : goal.returns-else-is_unreached
 unfolding retuned_by
-returns-else-is_unreached c = rw (held c.owns.ensures (ap not c.if-not-owns.false), c.in-Merged.is, sym c.is_unreached.ensures ∙ c.if-is_unreached.false, c.after-next.ensures)
+returns-else-is_unreached c = rw (held c.owns.ensures (ap not c.if-not-owns.false), c.in-Ok.is, sym c.is_unreached.ensures ∙ c.if-is_unreached.false, c.after-next.ensures)
