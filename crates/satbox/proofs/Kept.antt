@@ -9,10 +9,10 @@ use lib.ListN.{get_or}
 use borrow.Author.Tests.{eq-eqb, ne_eqb}
 use Rattle.scan.proofs.Bools.{and_both, both, or_second, or_right, Same, same, other, sames}
 use Rattle.stream.specs.Values.{given}
-use Rattle.stream.specs.Streams.{past_stream, is_sound, merge_of}
+use Rattle.stream.specs.Streams.{past_stream, is_sound, merge_of, after_query}
 use Rattle.stream.specs.Arrays.{are_fit}
 use Rattle.stream.specs.declared.Stream.{Stream}
-use Rattle.stream.specs.declared.Outcome.TheVariants.{Merged}
+use Rattle.std.specs.Result.{IsOk}
 use Rattle.stream.proofs.Keeping.{merge_sound, merge_frontend, merge_src}
 use Rattle.table.specs.Table.{stream_of, is_dead}
 use Rattle.table.specs.Reach.{has_source, set_of}
@@ -87,7 +87,7 @@ restreamed_whole id m t w h good e =
 
 module _ (id : ℕ) (codes pids delpids addpids : List ℕ) (t : SatBox) (w : Whole t) (live : (stream_of t id).frontend ≡ 0 → ⊥) (fit : are_fit codes ≡ true)
     (reached : (get_or codes 0 0 ≡ 0 → ⊥) → has_source (set_of t.settings (stream_of t id).frontend) (get_or codes 0 0) ≡ true)
-    (e : (merge_of (stream_of t id) codes pids delpids addpids).outcome ≡ Merged) where
+    (e : IsOk (merge_of (stream_of t id) codes pids delpids addpids)) where
   was : (is_sound t.settings.frontends (stream_of t id) ≡ true) × (is_dead (stream_of t id) || has_source (set_of t.settings (stream_of t id).frontend) (stream_of t id).values.src ≡ true)
   was = and_both _ _ (placed_at t.settings t.streams w.formed.rows id)
 
@@ -96,9 +96,9 @@ module _ (id : ℕ) (codes pids delpids addpids : List ℕ) (t : SatBox) (w : Wh
   reached_by (same q) = rw (eq-eqb (get_or codes 0 0) 0 q) (or_second _ _ was.1 (ne_eqb _ 0 live))
   reached_by (other q) = rw (ne_eqb (get_or codes 0 0) 0 q) (reached q)
 
-  pub merged_whole : Whole (restreamed id (merge_of (stream_of t id) codes pids delpids addpids).stream t)
+  pub merged_whole : Whole (restreamed id (after_query (stream_of t id) codes pids delpids addpids) t)
   merged_whole =
-      restreamed_whole id (merge_of (stream_of t id) codes pids delpids addpids).stream t w (λ q. live (ap (λ k. (stream_of t k).frontend) q))
+      restreamed_whole id (after_query (stream_of t id) codes pids delpids addpids) t w (λ q. live (ap (λ k. (stream_of t k).frontend) q))
       (both (merge_sound (stream_of t id) codes pids delpids addpids t.settings.frontends was.0 live fit e)
-      (or_right (is_dead (merge_of (stream_of t id) codes pids delpids addpids).stream) (rw (merge_frontend (stream_of t id) codes pids delpids addpids, merge_src (stream_of t id) codes pids delpids addpids e) (reached_by (sames _ 0)))))
+      (or_right (is_dead (after_query (stream_of t id) codes pids delpids addpids)) (rw (merge_frontend (stream_of t id) codes pids delpids addpids, merge_src (stream_of t id) codes pids delpids addpids e) (reached_by (sames _ 0)))))
       (merge_frontend (stream_of t id) codes pids delpids addpids)

@@ -24,8 +24,10 @@ use Rattle.table.specs.Formed.{well_formed}
 use Rattle.table.specs.declared.Session.{Session}
 use Rattle.table.specs.declared.SatBox.{SatBox}
 use Rattle.table.specs.declared.Refusal.TheVariants as refusal
-use Rattle.stream.specs.declared.Outcome.{Outcome as Merge}
-use Rattle.stream.specs.declared.Outcome.TheVariants.{Merged, Combination as Clash, TooMany}
+use Rattle.std.specs.Prelude.{Result, Ok, Err}
+use Rattle.stream.specs.declared.Stream.{Stream}
+use Rattle.stream.specs.declared.Refusal.{Refusal as Unmerged}
+use Rattle.stream.specs.declared.Refusal.TheVariants.{Combination as Clash, TooMany}
 use Rattle.table.specs.declared.Outcome.{Outcome}
 use Rattle.table.specs.declared.Outcome.TheVariants.{Done, Refused}
 use Rattle.steps.specs.Sights.{Asked, Lists, asked_of, lists_of, sight_of}
@@ -53,14 +55,14 @@ use Rattle.satbox.proofs.Kept.{sweeping_whole}
 -- STEPS 11 TO 18 are none of the reading's
 change_unread : (t : SatBox) (a : Asked) (l : Lists) → is_reading (change_case t a l) ≡ false
 change_unread t a l =
-    unread_chain (merges (sight_of t a) && not (is_passed (merge_case (merging t a l).outcome))) (merge_case (merging t a l).outcome) _ (by (merging t a l).outcome)
+    unread_chain (merges (sight_of t a) && not (is_passed (merge_case (merging t a l)))) (merge_case (merging t a l)) _ (by (merging t a l))
     (unread_chain (merges (sight_of t a) && (not (eqb a.stream 0) && is_unreached (sight_of t a))) NotReached _ refl
     (unread_chain (is_opening (sight_of t a) && not (can_seat t (sight_of t a))) Full Passed refl refl))
   where
-    by : (o : Merge) → is_reading (merge_case o) ≡ false
-    by Merged = refl
-    by Clash = refl
-    by TooMany = refl
+    by : (c : Result Stream Unmerged) → is_reading (merge_case c) ≡ false
+    by (Ok m) = refl
+    by (Err Clash) = refl
+    by (Err TooMany) = refl
 
 pub case_unread : (t : SatBox) (a : Asked) (l : Lists) → is_reading (case_of t a l) ≡ false
 unfolding case_of
