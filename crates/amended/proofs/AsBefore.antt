@@ -19,7 +19,9 @@ use Rattle.stream.specs.declared.Values.{Values}
 use Rattle.stream.specs.Streams.{blank, is_sound, merge_of}
 use Rattle.stream.proofs.Soundness.{sound_live}
 use Rattle.stream.specs.declared.Stream.{Stream}
-use Rattle.stream.specs.declared.Change.{Change}
+use Rattle.stream.specs.declared.Refusal.{Refusal}
+use Rattle.std.specs.Prelude.{Result}
+use Rattle.std.specs.Result.{result_unwrap_or}
 use Rattle.table.specs.Table.{are_distinct, no_session, is_free, open_count, stream_of, is_live}
 use Rattle.table.specs.Reach.{are_sets}
 use Rattle.table.specs.Formed.{are_sizes, is_placed, are_owned, is_seated, is_blank, well_formed}
@@ -49,9 +51,14 @@ lowest_frontend t = lowest_from t t.settings.frontends 1
 abbrev pub feed_before : SatBox → Sight → ℕ
 feed_before t v = cond (eqb v.fe 0) (lowest_frontend t) v.fe
 
-abbrev pub merging_before : SatBox → Asked → Lists → Change
-merging_before t a l =
-    merge_of (cond (eqb a.stream 0) (blank (feed_before t (sight_of t a))) (stream_of t a.stream)) a.codes l.pids l.delpids l.addpids
+abbrev pub unmerged_before : SatBox → Asked → Stream
+unmerged_before t a = cond (eqb a.stream 0) (blank (feed_before t (sight_of t a))) (stream_of t a.stream)
+
+abbrev pub merging_before : SatBox → Asked → Lists → Result Stream Refusal
+merging_before t a l = merge_of (unmerged_before t a) a.codes l.pids l.delpids l.addpids
+
+abbrev pub stream_after_before : SatBox → Asked → Lists → Stream
+stream_after_before t a l = result_unwrap_or (merging_before t a l) (unmerged_before t a)
 
 -- 18: not "a new stream whose fe is held, or with no fe and no frontend free"
 abbrev pub can_open_before : ℕ → SatBox → Bool
@@ -64,7 +71,7 @@ can_seat_before t v = cond (eqb v.stream 0) (can_open_before (feed_before t v) t
 abbrev pub case_before : SatBox → Asked → Lists → Case
 case_before t a l =
     not (is_passed (table_case (sight_of t a))) gives table_case (sight_of t a) or
-    (merges (sight_of t a) && not (is_passed (merge_case (merging_before t a l).outcome))) gives merge_case (merging_before t a l).outcome or
+    (merges (sight_of t a) && not (is_passed (merge_case (merging_before t a l)))) gives merge_case (merging_before t a l) or
     (is_opening (sight_of t a) && not (can_seat_before t (sight_of t a))) gives Full or
     Passed
 
@@ -74,13 +81,13 @@ opening_before m client t =
 
 abbrev pub retuning_before : SatBox → Asked → Lists → Serving
 retuning_before t a l =
-    granted (nothing (with_session (sight_of t a).place (seat_after (sight_of t a)) (cond (merges (sight_of t a)) (restreamed a.stream (merging_before t a l).stream t) t)))
+    granted (nothing (with_session (sight_of t a).place (seat_after (sight_of t a)) (cond (merges (sight_of t a)) (restreamed a.stream (stream_after_before t a l) t) t)))
     (seat_after (sight_of t a))
 
 abbrev pub seating_before : SatBox → Asked → Lists → Client → Serving
 seating_before t a l client =
     cond (eqb a.stream 0)
-    (granted (opening_before (merging_before t a l).stream client t) (guest 1 (lowest_id t.streams) client t))
+    (granted (opening_before (stream_after_before t a l) client t) (guest 1 (lowest_id t.streams) client t))
     (granted (joining a.stream client t) (guest 0 a.stream client t))
 
 abbrev pub grant_before : Method → SatBox → Asked → Lists → Client → Serving

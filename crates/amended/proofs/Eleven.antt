@@ -5,8 +5,10 @@ use mathlib.Core.Bool.{Bool, true, not, ◌&&◌, ◌||◌}
 use lib.Dec.{eqb, ltb}
 use Rattle.scan.specs.Lists.{◌gives◌or◌}
 use Rattle.scan.proofs.Bools.{never, cond_keeps}
-use Rattle.stream.specs.declared.Outcome.{Outcome}
-use Rattle.stream.specs.declared.Outcome.TheVariants.{Merged, Combination as Clash, TooMany}
+use Rattle.std.specs.Prelude.{Result, Ok, Err}
+use Rattle.stream.specs.declared.Stream.{Stream}
+use Rattle.stream.specs.declared.Refusal.{Refusal}
+use Rattle.stream.specs.declared.Refusal.TheVariants.{Combination as Clash, TooMany}
 use Rattle.table.specs.declared.SatBox.{SatBox}
 use Rattle.steps.specs.Sights.{Asked, Lists, sight_of}
 use Rattle.steps.specs.Steps.{rule_of, is_passed, is_named, table_case}
@@ -37,11 +39,11 @@ pub case_late : (t : SatBox) (a : Asked) (l : Lists) → is_named (sight_of t a)
 unfolding case_of
 case_late t a l y =
     late (not (is_passed (table_case (sight_of t a)))) (table_case (sight_of t a)) _ (table_late (sight_of t a) y)
-    (late (merges (sight_of t a) && not (is_passed (merge_case (merging t a l).outcome))) (merge_case (merging t a l).outcome) _ (by (merging t a l).outcome)
+    (late (merges (sight_of t a) && not (is_passed (merge_case (merging t a l)))) (merge_case (merging t a l)) _ (by (merging t a l))
     (late (merges (sight_of t a) && (not (eqb a.stream 0) && is_unreached (sight_of t a))) NotReached _ refl
     (late (is_opening (sight_of t a) && not (can_seat t (sight_of t a))) Full Passed refl refl)))
   where
-    by : (o : Outcome) → passes_eleven (merge_case o) ≡ true
-    by Merged = refl
-    by Clash = refl
-    by TooMany = refl
+    by : (c : Result Stream Refusal) → passes_eleven (merge_case c) ≡ true
+    by (Ok m) = refl
+    by (Err Clash) = refl
+    by (Err TooMany) = refl

@@ -19,7 +19,6 @@ use Rattle.aim.specs.declared.Method.TheVariants.{Options, Setup, Play, Teardown
 use Rattle.reader.specs.Request.{method_of, request_refusal}
 use Rattle.reader.proofs.RequestLaws.{passed_is}
 use Rattle.stream.specs.declared.Stream.{Stream}
-use Rattle.stream.specs.declared.Change.{Change}
 use Rattle.table.specs.Table.{no_session, is_free, is_on, session_at, box_with, session_with}
 use Rattle.table.specs.declared.Session.{Session}
 use Rattle.table.specs.declared.SatBox.{SatBox}
@@ -31,11 +30,11 @@ use Rattle.steps.specs.Steps.{rule_of, is_passed, is_setup, is_named, table_case
 use Rattle.steps.specs.Replies.{reply_text}
 use Rattle.steps.specs.declared.cases.Case.{Case}
 use Rattle.steps.specs.declared.cases.Case.TheVariants.{Passed, Reading, NoSession}
-use Rattle.serving.specs.Serving.{merging, merges, case_of, with_session, kept, seat_after, Serving, granted, retuned, retuning, grant, denied, served, client_of, answered}
+use Rattle.serving.specs.Serving.{stream_after, merges, case_of, with_session, kept, seat_after, Serving, granted, retuned, retuning, grant, denied, served, client_of, answered}
 use Rattle.serving.specs.declared.opening.Client.{Client}
 use Rattle.serving.proofs.Kept.{seat, since, kept_by, kept_named, kept_alone, kept_place}
 use Rattle.promises.proofs.Requests.{answered_by, left, answered_still}
-use Rattle.promises.proofs.Keeps.{kept_session, merges_kept, merging_kept, case_kept, answered_case, seated_below}
+use Rattle.promises.proofs.Keeps.{kept_session, merges_kept, after_kept, case_kept, answered_case, seated_below}
 use Rattle.promises.proofs.Granting.{options_passes}
 use Rattle.promises.proofs.Retuning.{but}
 use Rattle.promises.proofs.Methods.{options_refreshes, options_alone, other_alone, setup_replaces, play_marks, setup_joins, setup_opens, teardown_leaves, teardown_empties}
@@ -276,10 +275,10 @@ module _ (a : Asked) (t : SatBox) where
           session = e;
           table =
               ap (λ p. timeless (with_session p x (retuned (kept a t) a l))) (kept_place a t a.session)
-              ∙ ap (λ b. timeless (with_session (seat a t) x (cond b (restreamed id (merging (kept a t) a l).stream (kept a t)) (kept a t)))) (merges_kept a t)
-              ∙ ap (λ (c : Change). timeless (with_session (seat a t) x (cond (merges (sight_of t a)) (restreamed id c.stream (kept a t)) (kept a t)))) (merging_kept a t l)
-              ∙ ap (λ u. timeless (with_session (seat a t) x (cond (merges (sight_of t a)) (restreamed id (merging t a l).stream u) u))) (kept_named a t h)
-              ∙ retuned_alike (merges (sight_of t a)) (seat a t) id (merging t a l).stream x y (since a t) t e;
+              ∙ ap (λ b. timeless (with_session (seat a t) x (cond b (restreamed id (stream_after (kept a t) a l) (kept a t)) (kept a t)))) (merges_kept a t)
+              ∙ ap (λ m. timeless (with_session (seat a t) x (cond (merges (sight_of t a)) (restreamed id m (kept a t)) (kept a t)))) (after_kept a t l)
+              ∙ ap (λ u. timeless (with_session (seat a t) x (cond (merges (sight_of t a)) (restreamed id (stream_after t a l) u) u))) (kept_named a t h)
+              ∙ retuned_alike (merges (sight_of t a)) (seat a t) id (stream_after t a l) x y (since a t) t e;
         }
 
     pub served_unnamed : is_named (sight_of t a) ≡ false → served (kept a t) a l client ≡ served_before t a l client

@@ -19,8 +19,9 @@ use Rattle.stream.specs.Values.{go_together, merged}
 use Rattle.stream.specs.Streams.{blank, changed, merge_of}
 use Rattle.stream.specs.Arrays.{are_fit}
 use Rattle.stream.specs.declared.Stream.{Stream}
-use Rattle.stream.specs.declared.Change.{Change}
-use Rattle.stream.specs.declared.Outcome.TheVariants.{Merged, Combination, TooMany}
+use Rattle.stream.specs.declared.Refusal.{Refusal}
+use Rattle.stream.specs.declared.Refusal.TheVariants.{Combination, TooMany}
+use Rattle.std.specs.Prelude.{Result, Ok, Err}
 use Rattle.table.specs.declared.SatBox.{SatBox}
 use Rattle.finding.specs.Finding.{lowest_id, is_held, can_feed, choice}
 use Rattle.closings.specs.Closing.{restreamed}
@@ -28,7 +29,7 @@ use Rattle.closings.proofs.Keeping.{Whole}
 use Rattle.steps.specs.Sights.{Asked, Lists, asked_of, lists_of, sight_of}
 use Rattle.steps.specs.Steps.{is_passed, is_named}
 use Rattle.steps.specs.declared.cases.Case.TheVariants.{Passed, Reading}
-use Rattle.serving.specs.Serving.{has_place, has_room, guest, can_join, joining, can_open, opening, source_of, feed_of, merging, can_seat, case_of, kept, Serving, granted, retuning, grant, denied, served, client_of, answered}
+use Rattle.serving.specs.Serving.{has_place, has_room, guest, can_join, joining, can_open, opening, source_of, feed_of, merging, stream_after, merge_case, can_seat, case_of, kept, Serving, granted, retuning, grant, denied, served, client_of, answered}
 use Rattle.serving.specs.declared.opening.Client.{Client}
 use Rattle.amended.proofs.Reaching.{AllReach, is_free_frontend, feeds_if_free, new_range, case_without}
 use Rattle.amended.proofs.Choosing.{lowest_free_taken, case_without_law}
@@ -38,23 +39,23 @@ use Rattle.serving.proofs.Branching.{merging_feed, merging_src}
 use Rattle.steps.proofs.ReplyLaws.{unread_passed}
 use Rattle.steps.proofs.Telling.{asked_fit}
 use Rattle.satbox.proofs.RequestLaws.{case_unread}
-use Rattle.amended.proofs.AsBefore.{lowest_frontend, feed_before, merging_before, can_open_before, can_seat_before, case_before, opening_before, retuning_before, grant_before, served_before, answered_before, lowest}
+use Rattle.amended.proofs.AsBefore.{lowest_frontend, feed_before, merging_before, stream_after_before, can_open_before, can_seat_before, case_before, opening_before, retuning_before, grant_before, served_before, answered_before, lowest}
 
 -- what becomes of a query, by the two rules that may refuse it, is the same for any streams
-abbrev settled : Bool → Bool → Stream → Stream → Change
-settled b c m x = cond b (record { stream = m; outcome = Combination }) (cond c (record { stream = m; outcome = TooMany }) (record { stream = x; outcome = Merged }))
+abbrev settled : Bool → Bool → Stream → Result Stream Refusal
+settled b c x = cond b (Err Combination) (cond c (Err TooMany) (Ok x))
 
-settled_alike : (b c : Bool) (m x n y : Stream) → (settled b c m x).outcome ≡ (settled b c n y).outcome
-settled_alike true c m x n y = refl
-settled_alike false true m x n y = refl
-settled_alike false false m x n y = refl
+settled_alike : (b c : Bool) (x y : Stream) → merge_case (settled b c x) ≡ merge_case (settled b c y)
+settled_alike true c x y = refl
+settled_alike false true x y = refl
+settled_alike false false x y = refl
 
-blank_outcome : (f g : ℕ) (codes pids delpids addpids : List ℕ) → (merge_of (blank f) codes pids delpids addpids).outcome ≡ (merge_of (blank g) codes pids delpids addpids).outcome
+blank_case : (f g : ℕ) (codes pids delpids addpids : List ℕ) → merge_case (merge_of (blank f) codes pids delpids addpids) ≡ merge_case (merge_of (blank g) codes pids delpids addpids)
 unfolding merge_of chosen
-blank_outcome f g codes pids delpids addpids =
+blank_case f g codes pids delpids addpids =
     settled_alike (not (go_together (merged (blank f).values codes))) (ltb 32 (length (chosen (blank f) codes pids delpids addpids).list))
-    (blank f) (changed (blank f) (merged (blank f).values codes) (chosen (blank f) codes pids delpids addpids))
-    (blank g) (changed (blank g) (merged (blank g).values codes) (chosen (blank g) codes pids delpids addpids))
+    (changed (blank f) (merged (blank f).values codes) (chosen (blank f) codes pids delpids addpids))
+    (changed (blank g) (merged (blank g).values codes) (chosen (blank g) codes pids delpids addpids))
 
 cond_alike : (b : Bool) {x y : Serving} (z : Serving) → (b ≡ true → x ≡ y) → cond b x z ≡ cond b y z
 cond_alike true z h = h refl
@@ -117,22 +118,22 @@ module _ (t : SatBox) (w : Whole t) (reach : AllReach t.settings) where
     seats_alike = ap (λ b. cond (eqb (sight_of t a).stream 0) (has_place t && (b && has_room t)) (can_join (sight_of t a).stream t)) feeds_alike
 
     -- 16 and 17: what becomes of a query does not rest on the frontend
-    outcome_alike : (merging t a l).outcome ≡ (merging_before t a l).outcome
+    query_alike : merge_case (merging t a l) ≡ merge_case (merging_before t a l)
     unfolding merging
-    outcome_alike = by (sames a.stream 0)
+    query_alike = by (sames a.stream 0)
       where
-        by : Same a.stream 0 → (merging t a l).outcome ≡ (merging_before t a l).outcome
-        by (same z) = rw (eq-eqb a.stream 0 z) (blank_outcome _ _ a.codes l.pids l.delpids l.addpids)
+        by : Same a.stream 0 → merge_case (merging t a l) ≡ merge_case (merging_before t a l)
+        by (same z) = rw (eq-eqb a.stream 0 z) (blank_case _ _ a.codes l.pids l.delpids l.addpids)
         by (other z) = rw (ne_eqb a.stream 0 z)
 
     -- THE CASE
     pub case_alike : case_of t a l ≡ case_before t a l
     unfolding case_without
-    case_alike = case_without_law t w reach a fit l ∙ rw (outcome_alike, seats_alike)
+    case_alike = case_without_law t w reach a fit l ∙ rw (query_alike, seats_alike)
 
-    merged_alike : feed_of t (sight_of t a) ≡ feed_before t (sight_of t a) → merging t a l ≡ merging_before t a l
+    after_alike : feed_of t (sight_of t a) ≡ feed_before t (sight_of t a) → stream_after t a l ≡ stream_after_before t a l
     unfolding merging
-    merged_alike e = rw e
+    after_alike e = rw e
 
     -- A SETUP OR A PLAY IN A SESSION
     retuning_alike : retuning t a l ≡ retuning_before t a l
@@ -148,17 +149,17 @@ module _ (t : SatBox) (w : Whole t) (reach : AllReach t.settings) where
       changing = (through t a l passed).1
 
       -- A SETUP WITHOUT ONE, for a new stream
-      opening_alike : a.method ≡ Setup → is_named (sight_of t a) ≡ false → a.stream ≡ 0 → opening (merging t a l).stream client t ≡ opening_before (merging_before t a l).stream client t
+      opening_alike : a.method ≡ Setup → is_named (sight_of t a) ≡ false → a.stream ≡ 0 → opening (stream_after t a l) client t ≡ opening_before (stream_after_before t a l) client t
       unfolding opening sight_of
       opening_alike setup stranger none =
-          let m = (merging t a l).stream in
+          let m = stream_after t a l in
           let y = can_open_law t a l changing setup stranger none in
           let f = feed_alike (and_both (can_feed t (source_of (sight_of t a)) (feed_of t (sight_of t a))) _ (and_both (has_place t) _ y).1).0 in
           let src = merging_src t a l client (sight_of t a) refl none (new_merged t a l changing setup stranger none) in
           let feed = merging_feed t a l client (sight_of t a) refl none in
           let open-there : can_open m.values.src m.frontend t ≡ true = rw (src, feed) y in
           let before-there : can_open_before m.frontend t ≡ true = rw (feed, f) (sym (ap (λ b. has_place t && (b && has_room t)) feeds_alike) ∙ y) in
-          rw (← merged_alike f, open-there, before-there)
+          rw (← after_alike f, open-there, before-there)
 
       grant_alike : (k : Method) → a.method ≡ k → grant k t a l client ≡ grant_before k t a l client
       grant_alike Options e = refl

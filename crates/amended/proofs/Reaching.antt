@@ -22,7 +22,7 @@ use Rattle.steps.specs.Steps.{is_passed, is_setup, is_named, table_case}
 use Rattle.steps.specs.declared.cases.Case.{Case}
 use Rattle.steps.specs.declared.cases.Case.TheVariants.{Passed, NotReached, Full}
 use Rattle.serving.specs.Serving.{source_of, merging, merges, merge_case, is_unreached, is_opening, can_seat, case_of}
-use Rattle.stream.specs.declared.Outcome.TheVariants.{Merged}
+use Rattle.std.specs.Result.{IsOk}
 use Rattle.stream.specs.Values.{given}
 use Rattle.stream.specs.Streams.{is_sound}
 use Rattle.stream.specs.Arrays.{is_in_range, is_fit, are_fit}
@@ -143,7 +143,7 @@ stream_reached t w id live = or_second _ _ (and_both (is_sound t.settings.fronte
 
 -- STEP 17 FOR A SRC, whatever the sets: of an owner's query that steps 11 to 16 and the PIDs of 17 let through, a src that is given is refused exactly
 -- if the frontend held does not reach it
-module _ (t : SatBox) (a : Asked) (l : Lists) (passed : table_case (sight_of t a) ≡ Passed) (owner : merges (sight_of t a) ≡ true) (named : is_named (sight_of t a) ≡ true) (some : a.stream ≡ 0 → ⊥) (merged : (merging t a l).outcome ≡ Merged) where
+module _ (t : SatBox) (a : Asked) (l : Lists) (passed : table_case (sight_of t a) ≡ Passed) (owner : merges (sight_of t a) ≡ true) (named : is_named (sight_of t a) ≡ true) (some : a.stream ≡ 0 → ⊥) (merged : IsOk (merging t a l)) where
   src_seen : (sight_of t a).src ≡ get_or a.codes 0 0
   unfolding sight_of
   src_seen = refl
@@ -156,13 +156,13 @@ module _ (t : SatBox) (a : Asked) (l : Lists) (passed : table_case (sight_of t a
   unfolding case_of
   unreached_is_refused given n =
       let u : is_unreached (sight_of t a) ≡ true = rw (src_seen, reach_seen, ne_eqb _ 0 given, n) in
-      rw (passed, merged, u, owner, ne_eqb a.stream 0 some)
+      rw (passed, merged_passes (merging t a l) merged, u, owner, ne_eqb a.stream 0 some)
 
   pub reached_passes : has_source (set_of t.settings (stream_of t a.stream).frontend) (get_or a.codes 0 0) ≡ true → case_of t a l ≡ Passed
   unfolding case_of
   reached_passes y =
       let u : is_unreached (sight_of t a) ≡ false = rw (src_seen, reach_seen, y, and-false (not (eqb (get_or a.codes 0 0) 0))) in
-      rw (passed, merged, u, owner, named, ne_eqb a.stream 0 some, and-false (is_setup (sight_of t a).method))
+      rw (passed, merged_passes (merging t a l) merged, u, owner, named, ne_eqb a.stream 0 some, and-false (is_setup (sight_of t a).method))
 
 -- AS BEFORE: every set is full
 pub record AllReach (s : Settings) : Type 0 where
@@ -210,7 +210,7 @@ module _ (t : SatBox) (all : AllReach t.settings) (source : ℕ) (low : 1 ≤ so
 unfoldable pub case_without : SatBox → Asked → Lists → Case
 case_without t a l =
     not (is_passed (table_case (sight_of t a))) gives table_case (sight_of t a) or
-    (merges (sight_of t a) && not (is_passed (merge_case (merging t a l).outcome))) gives merge_case (merging t a l).outcome or
+    (merges (sight_of t a) && not (is_passed (merge_case (merging t a l)))) gives merge_case (merging t a l) or
     (is_opening (sight_of t a) && not (can_seat t (sight_of t a))) gives Full or
     Passed
 

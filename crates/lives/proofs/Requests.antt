@@ -13,7 +13,6 @@ use Rattle.aim.specs.declared.Method.TheVariants.{Options, Setup, Play, Teardown
 use Rattle.reader.specs.Request.{method_of}
 use Rattle.stream.specs.Streams.{past_stream}
 use Rattle.stream.specs.declared.Stream.{Stream}
-use Rattle.stream.specs.declared.Change.{Change}
 use Rattle.stream.proofs.Keeping.{merge_frontend}
 use Rattle.table.specs.Table.{session_at, stream_of}
 use Rattle.table.specs.declared.Session.{Session}
@@ -22,11 +21,11 @@ use Rattle.steps.specs.Sights.{Asked, Lists, asked_of, lists_of, sight_of}
 use Rattle.steps.specs.Steps.{is_passed, is_setup, looks_up, is_named}
 use Rattle.closings.specs.Closing.{Did, nothing, restreamed, closing}
 use Rattle.closings.specs.Does.{Closable}
-use Rattle.serving.specs.Serving.{joining, opening, merging, merges, with_session, kept, seat_after, Serving, retuning, grant, served, client_of, answered}
+use Rattle.serving.specs.Serving.{joining, opening, stream_after, merges, with_session, kept, seat_after, Serving, retuning, grant, served, client_of, answered}
 use Rattle.serving.specs.declared.opening.Client.{Client}
 use Rattle.closings.proofs.Keeping.{Whole}
 use Rattle.serving.proofs.Passing.{Untested, named_needed, named_closable, own_live}
-use Rattle.serving.proofs.Branching.{merging_live}
+use Rattle.serving.proofs.Branching.{after_live}
 use Rattle.serving.proofs.Kept.{Alike, with_again, seat, since, kept_named, kept_alone, kept_streams, kept_place, kept_whole}
 use Rattle.satbox.proofs.RequestLaws.{grant_passes}
 use Rattle.promises.proofs.Keeps.{kept_is_named, kept_since, kept_closes, seated_below}
@@ -65,7 +64,7 @@ module _ (t : SatBox) (a : Asked) (l : Lists) (client : Client) (w : Whole t) (p
     alone_holds Options e = k.still
     alone_holds Setup e =
         rw n
-        (cond_keeps (λ (x : Serving). R x.did) (eqb a.stream 0) _ _ (λ z. k.opened (merging t a l).stream client refl) (λ z. k.joined a.stream client refl))
+        (cond_keeps (λ (x : Serving). R x.did) (eqb a.stream 0) _ _ (λ z. k.opened (stream_after t a l) client refl) (λ z. k.joined a.stream client refl))
     alone_holds Play e = never (named_needed (sight_of t a) p (rw e)) n
     alone_holds Teardown e = never (named_needed (sight_of t a) p (rw e)) n
     alone_holds Other e = k.still
@@ -85,11 +84,11 @@ module _ (t : SatBox) (a : Asked) (l : Lists) (client : Client) (w : Whole t) (p
       unfolding sight_of
       named = kept_is_named a t ∙ lt-ltb (seat a t) 32 h
 
-      merging_feed : looks_up a.method ≡ true → (merging u a l).stream.frontend ≡ (stream_of t a.stream).frontend
+      merging_feed : looks_up a.method ≡ true → (stream_after u a l).frontend ≡ (stream_of t a.stream).frontend
       unfolding sight_of
       merging_feed looks =
           let live = own_live u (kept_whole a t w) a (sight_of u a) refl named p looks in
-          ap (λ (c : Change). c.stream.frontend) (merging_live u a l client (sight_of u a) refl (λ e. live (ap (λ i. (stream_of u i).frontend) e)))
+          ap (λ m. m.frontend) (after_live u a l client (sight_of u a) refl (λ e. live (ap (λ i. (stream_of u i).frontend) e)))
           ∙ (merge_frontend (stream_of u a.stream) a.codes l.pids l.delpids l.addpids ∙ ap (λ ms. (get_or (past_stream ∷ ms) a.stream past_stream).frontend) (kept_streams a t))
 
       after_kin : Kin t.clock (seat_after (sight_of u a)) (session_at t (seat a t))
@@ -114,7 +113,7 @@ module _ (t : SatBox) (a : Asked) (l : Lists) (client : Client) (w : Whole t) (p
       unfolding restreamed
       retuning_holds looks =
           let s = seat_after (sight_of u a) in
-          let m = (merging u a l).stream in
+          let m = stream_after u a l in
           cond_keeps (λ (v : SatBox). R (nothing (with_session (sight_of u a).place s v))) (merges (sight_of u a)) (restreamed a.stream m u) u
           (λ e. again a.stream m (k.changed (seat a t) s after_kin _ (merged a.stream m (merging_feed looks)))) (λ e. again 0 m (k.changed (seat a t) s after_kin t as_it_was))
 

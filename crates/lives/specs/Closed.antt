@@ -118,7 +118,7 @@ pub data Ends (t : SatBox) (i : ℕ) : Call → Type 0 where
 pub record PassesElse (t : SatBox) (a : Asked) (l : Lists) : Type 0 where
   pub opening : is_opening (sight_of t a) ≡ true
   pub seen : table_case (sight_of t a) ≡ Passed
-  pub query : merges (sight_of t a) && not (is_passed (merge_case (merging t a l).outcome)) ≡ false
+  pub query : merges (sight_of t a) && not (is_passed (merge_case (merging t a l))) ≡ false
   pub src : merges (sight_of t a) && (not (eqb a.stream 0) && is_unreached (sight_of t a)) ≡ false
   pub place : has_place t ≡ true
   pub frontend : (sight_of t a).stream ≡ 0 → can_feed t (source_of (sight_of t a)) (feed_of t (sight_of t a)) ≡ true

@@ -12,7 +12,7 @@ use Rattle.table.specs.declared.SatBox.{SatBox}
 use Rattle.steps.specs.Sights.{Asked, Lists, asked_of, lists_of, sight_of}
 use Rattle.steps.specs.Steps.{is_named}
 use Rattle.closings.specs.Closing.{Did, nothing, restreamed, sweeping}
-use Rattle.serving.specs.Serving.{merging, merges, with_session, kept, seat_after, Serving, retuning, seating, grant, served, client_of, answered}
+use Rattle.serving.specs.Serving.{stream_after, merges, with_session, kept, seat_after, Serving, retuning, seating, grant, served, client_of, answered}
 use Rattle.satbox.specs.Calls.{requested}
 use Rattle.serving.specs.declared.opening.Client.{Client}
 use Rattle.closings.proofs.Keeping.{Whole}
@@ -28,7 +28,7 @@ module _ (t : SatBox) (a : Asked) (l : Lists) (client : Client) (w : Whole t) wh
   retuning_counted : Counted t (retuning t a l).did
   unfolding with_session restreamed
   retuning_counted =
-      cond_keeps (λ (u : SatBox). Counted t (nothing (with_session (sight_of t a).place (seat_after (sight_of t a)) u))) (merges (sight_of t a)) (restreamed a.stream (merging t a l).stream t) t
+      cond_keeps (λ (u : SatBox). Counted t (nothing (with_session (sight_of t a).place (seat_after (sight_of t a)) u))) (merges (sight_of t a)) (restreamed a.stream (stream_after t a l) t) t
       (λ e. quiet_counted t _ refl refl) (λ e. quiet_counted t _ refl refl)
 
   grant_counted : Untested (sight_of t a) → (m : Method) → a.method ≡ m → Counted t (grant m t a l client).did
@@ -36,7 +36,7 @@ module _ (t : SatBox) (a : Asked) (l : Lists) (client : Client) (w : Whole t) wh
   grant_counted p Options e = quiet_counted t t refl refl
   grant_counted p Setup e =
       cond_keeps (λ (x : Serving). Counted t x.did) (is_named (sight_of t a)) (retuning t a l) (seating t a l client) (λ h. retuning_counted)
-      (λ h. cond_keeps (λ (x : Serving). Counted t x.did) (eqb a.stream 0) _ _ (λ z. opening_counted (merging t a l).stream client t) (λ z. joining_counted a.stream client t))
+      (λ h. cond_keeps (λ (x : Serving). Counted t x.did) (eqb a.stream 0) _ _ (λ z. opening_counted (stream_after t a l) client t) (λ z. joining_counted a.stream client t))
   grant_counted p Play e = retuning_counted
   grant_counted p Teardown e = closing_counted 1 (sight_of t a).place t (tears_closable t a w p e)
   grant_counted p Other e = quiet_counted t t refl refl

@@ -21,7 +21,7 @@ use Rattle.steps.specs.declared.Sight.{Sight}
 use Rattle.steps.proofs.ReplyLaws.{unread_passed}
 use Rattle.closings.specs.Closing.{closing}
 use Rattle.closings.proofs.Keeping.{Whole}
-use Rattle.serving.specs.Serving.{merging, merges, is_unreached, is_opening, case_of, with_session, refreshed, kept, Serving, grant, denied, served, client_of, answered}
+use Rattle.serving.specs.Serving.{merging, stream_after, merges, is_unreached, is_opening, case_of, with_session, refreshed, kept, Serving, grant, denied, served, client_of, answered}
 use Rattle.serving.specs.declared.opening.Client.{Client}
 use Rattle.serving.proofs.Kept.{closing_again, seat, since, kept_by, kept_named, kept_alone, kept_streams, kept_place}
 use Rattle.satbox.proofs.RequestLaws.{grant_passes, case_unread}
@@ -82,6 +82,10 @@ module _ (a : Asked) (t : SatBox) where
   pub merging_kept : (l : Lists) → merging (kept a t) a l ≡ merging t a l
   unfolding merging choice sight_of with_session
   merging_kept l = kept_by a t (λ u. merging u a l ≡ merging t a l) (λ y. refl) (λ n. refl)
+
+  pub after_kept : (l : Lists) → stream_after (kept a t) a l ≡ stream_after t a l
+  unfolding merging choice sight_of with_session
+  after_kept l = kept_by a t (λ u. stream_after u a l ≡ stream_after t a l) (λ y. refl) (λ n. refl)
 
   unreached_kept : is_unreached (sight_of (kept a t) a) ≡ is_unreached (sight_of t a)
   unfolding sight_of with_session

@@ -18,7 +18,6 @@ use Rattle.refusals.specs.declared.Refusal.TheVariants as refusal
 use Rattle.reader.specs.Request.{method_of, request_refusal}
 use Rattle.stream.specs.Streams.{no_stream, past_stream, blank}
 use Rattle.stream.specs.declared.Stream.{Stream}
-use Rattle.stream.specs.declared.Change.{Change}
 use Rattle.table.specs.Table.{no_session, session_at, stream_of, is_dead, is_on}
 use Rattle.finding.specs.Finding.{lowest_place, lowest_id, drawn}
 use Rattle.table.specs.declared.Session.{Session}
@@ -28,13 +27,13 @@ use Rattle.steps.specs.Sights.{Asked, Lists, asked_of, lists_of, port_of, place_
 use Rattle.steps.specs.Steps.{is_passed, is_setup, is_named}
 use Rattle.closings.specs.Closing.{Did, restreamed, reseated, noting, close_one, closing}
 use Rattle.closings.specs.Does.{Closable}
-use Rattle.serving.specs.Serving.{has_place, seating_as, joining, can_open, opening, merging, kept, client_of, answered}
+use Rattle.serving.specs.Serving.{has_place, guest, granted, seating, seating_as, joining, can_open, opening, stream_after, kept, client_of, answered}
 use Rattle.closings.proofs.Closings.{closing_fine}
 use Rattle.closings.proofs.Keeping.{Whole, owner_sessions, owner_streams}
 use Rattle.serving.proofs.Kept.{kept_named, kept_alone, kept_place}
 use Rattle.serving.proofs.OpeningKeeps.{row}
 use Rattle.serving.proofs.Passing.{named_needed, named_closable}
-use Rattle.serving.proofs.Branching.{merging_new, merging_feed, merging_src}
+use Rattle.serving.proofs.Branching.{after_new, merging_feed, merging_src}
 use Rattle.promises.proofs.Passing.{Changing, source, feed, can_join_law, can_open_law, new_merged}
 use Rattle.promises.proofs.Requests.{answered_still}
 use Rattle.promises.proofs.Keeps.{kept_closes}
@@ -170,13 +169,14 @@ module _ (s : List ℕ) (address draw : ℕ) (t : SatBox) where
         setup_opens none =
             let client = client_of address draw a in
             let id = lowest_id t.streams in
-            let m = (merging t a l).stream in
+            let m = stream_after t a l in
             let y = can_open_law t a l free setup unnamed none in
             let o = new_merged t a l free setup unnamed none in
             let open-there : can_open m.values.src m.frontend t ≡ true = rw (merging_src t a l client (sight_of t a) refl none o, merging_feed t a l client (sight_of t a) refl none) y in
+            let new : seating t a l client ≡ granted (opening m client t) (guest 1 id client t) = rw (eq-eqb a.stream 0 none) in
             subst (λ x. Changes t u (lowest_place t.sessions) (newcomer address draw (port_of a.transport) id 1 t) id x)
-            (ap (λ (c : Change). c.stream) (merging_new t a l client (sight_of t a) refl none))
-            (rw (does s address draw t w passed setup, alone, unnamed, eq-eqb a.stream 0 none, open-there)
+            (after_new t a l client (sight_of t a) refl none)
+            (rw (does s address draw t w passed setup, alone, unnamed, new, open-there)
             (changes_both w (placed _ y) refl (settled_same refl refl) id m refl
             (get_or-set_same t.streams (first is_dead t.streams) m past_stream (row (source t a) (feed t a) t y w))))
 

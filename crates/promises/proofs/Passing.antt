@@ -7,8 +7,11 @@ use lib.ListN.{get_or}
 use borrow.Author.Tests.{ne_eqb, eqb-false, not-false}
 use Rattle.scan.proofs.Bools.{never, Case, is, isnt, case, cond_keeps}
 use Rattle.aim.specs.declared.Method.TheVariants.{Setup, Teardown}
-use Rattle.stream.specs.declared.Outcome.{Outcome}
-use Rattle.stream.specs.declared.Outcome.TheVariants.{Merged, Combination as Clash, TooMany}
+use Rattle.std.specs.Prelude.{Result, Ok, Err}
+use Rattle.std.specs.Result.{IsOk}
+use Rattle.stream.specs.declared.Stream.{Stream}
+use Rattle.stream.specs.declared.Refusal.{Refusal}
+use Rattle.stream.specs.declared.Refusal.TheVariants.{Combination as Clash, TooMany}
 use Rattle.table.specs.Table.{stream_of}
 use Rattle.table.specs.Reach.{has_source, set_of}
 use Rattle.table.specs.declared.SatBox.{SatBox}
@@ -29,7 +32,7 @@ use Rattle.scan.specs.Lists.{◌gives◌or◌}
 
 -- STEPS 16 TO 18: none of their tests holds
 pub record Changing (t : SatBox) (a : Asked) (l : Lists) : Type 0 where
-  pub query : merges (sight_of t a) && not (is_passed (merge_case (merging t a l).outcome)) ≡ false
+  pub query : merges (sight_of t a) && not (is_passed (merge_case (merging t a l))) ≡ false
   pub src : merges (sight_of t a) && (not (eqb a.stream 0) && is_unreached (sight_of t a)) ≡ false
   pub seat : is_opening (sight_of t a) && not (can_seat t (sight_of t a)) ≡ false
 
@@ -44,7 +47,7 @@ chain_of true c d e = by (case (is_passed c))
 
 changing : (t : SatBox) (a : Asked) (l : Lists) → change_case t a l ≡ Passed → Changing t a l
 changing t a l e =
-    let m = chain_of (merges (sight_of t a)) (merge_case (merging t a l).outcome) _ e in
+    let m = chain_of (merges (sight_of t a)) (merge_case (merging t a l)) _ e in
     let r = chain (merges (sight_of t a) && (not (eqb a.stream 0) && is_unreached (sight_of t a))) NotReached _ refl m.1 in
     let s = chain (is_opening (sight_of t a) && not (can_seat t (sight_of t a))) Full Passed refl r.1 in
     record { query = m.0; src = r.0; seat = s.0 }
@@ -89,14 +92,14 @@ abbrev pub feed : SatBox → Asked → ℕ
 feed t a = feed_of t (sight_of t a)
 
 module _ (t : SatBox) (a : Asked) (l : Lists) (p : Changing t a l) where
-  merged_only : (o : Outcome) → not (is_passed (merge_case o)) ≡ false → o ≡ Merged
-  merged_only Merged c = refl
-  merged_only Clash c = never refl c
-  merged_only TooMany c = never refl c
+  merged_only : (r : Result Stream Refusal) → not (is_passed (merge_case r)) ≡ false → IsOk r
+  merged_only (Ok m) c = refl
+  merged_only (Err Clash) c = never refl c
+  merged_only (Err TooMany) c = never refl c
 
   -- 16 and 17: a query that is merged goes through
-  pub through_merged : merges (sight_of t a) ≡ true → (merging t a l).outcome ≡ Merged
-  through_merged e = merged_only (merging t a l).outcome (and_other (merges (sight_of t a)) _ p.query e)
+  pub through_merged : merges (sight_of t a) ≡ true → IsOk (merging t a l)
+  through_merged e = merged_only (merging t a l) (and_other (merges (sight_of t a)) _ p.query e)
 
   -- 17, for a src: one that is given is reached by the frontend of the stream
   pub through_reached : merges (sight_of t a) ≡ true → (a.stream ≡ 0 → ⊥) → (get_or a.codes 0 0 ≡ 0 → ⊥) → has_source (set_of t.settings (stream_of t a.stream).frontend) (get_or a.codes 0 0) ≡ true
@@ -122,6 +125,6 @@ module _ (t : SatBox) (a : Asked) (l : Lists) (p : Changing t a l) where
       unfolding sight_of
       can_open_law = rw none at (through_seat (rw (setup, stranger)))
 
-      pub new_merged : (merging t a l).outcome ≡ Merged
+      pub new_merged : IsOk (merging t a l)
       unfolding sight_of
       new_merged = through_merged (rw (setup, none))

@@ -22,7 +22,7 @@ use Rattle.table.specs.declared.SatBox.{SatBox}
 use Rattle.steps.specs.Sights.{Asked, Lists, asked_of, lists_of, sight_of}
 use Rattle.steps.specs.Steps.{is_passed, is_named}
 use Rattle.closings.specs.Closing.{Did, restreamed, noting, record_of, closing, sweeping}
-use Rattle.serving.specs.Serving.{guest, seating_as, joining, opening, merging, kept, Serving, granted, grant, served, client_of, answered}
+use Rattle.serving.specs.Serving.{guest, seating_as, joining, opening, stream_after, kept, Serving, granted, grant, served, client_of, answered}
 use Rattle.satbox.specs.Calls.{requested}
 use Rattle.serving.specs.declared.opening.Client.{Client}
 use Rattle.closings.proofs.Keeping.{Whole}
@@ -103,13 +103,13 @@ module _ (t : SatBox) (a : Asked) (l : Lists) (client : Client) where
 
       -- ONE OF KIND 1, "opened as owner", where it names none: with the frontend that the new stream takes
       module _ (none : a.stream ≡ 0) where
-        pub opened_is : served t a l client ≡ granted (opening (merging t a l).stream client t) (guest 1 (lowest_id t.streams) client t)
+        pub opened_is : served t a l client ≡ granted (opening (stream_after t a l) client t) (guest 1 (lowest_id t.streams) client t)
         opened_is = granted_is Setup setup passed ∙ rw (stranger, eq-eqb a.stream 0 none)
 
         pub opened_records : Whole t → (served t a l client).did.records ≡ opens_as 1 (served t a l client).session (feed t a) t ∷ []
         unfolding opening seating_as noting restreamed sight_of
         opened_records w =
-            let m = (merging t a l).stream in
+            let m = stream_after t a l in
             let f : m.frontend ≡ feed t a = merging_feed t a l client (sight_of t a) refl none in
             let g : m.values.src ≡ source t a = merging_src t a l client (sight_of t a) refl none (new_merged t a l changing setup stranger none) in
             let y = can_open_law t a l changing setup stranger none in

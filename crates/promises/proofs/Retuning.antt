@@ -13,9 +13,8 @@ use Rattle.scan.proofs.Bools.{never}
 use Rattle.aim.specs.declared.Method.{Method}
 use Rattle.aim.specs.declared.Method.TheVariants.{Options, Setup, Play, Teardown, Other}
 use Rattle.reader.specs.Request.{method_of}
-use Rattle.stream.specs.Streams.{past_stream, merge_of}
+use Rattle.stream.specs.Streams.{past_stream, after_query}
 use Rattle.stream.specs.declared.Stream.{Stream}
-use Rattle.stream.specs.declared.Change.{Change}
 use Rattle.table.specs.Table.{no_session, session_at, stream_of, with_stream}
 use Rattle.table.proofs.Ids.{stream_in}
 use Rattle.table.specs.declared.Session.{Session}
@@ -23,13 +22,13 @@ use Rattle.table.specs.declared.SatBox.{SatBox}
 use Rattle.steps.specs.Sights.{Asked, Lists, asked_of, lists_of, port_of, place_named, sight_of}
 use Rattle.steps.specs.Steps.{is_passed, is_setup, looks_up, is_named}
 use Rattle.closings.specs.Closing.{restreamed}
-use Rattle.serving.specs.Serving.{merging, merges, with_session, kept, seat_after, retuned, Serving, grant, client_of, answered}
+use Rattle.serving.specs.Serving.{stream_after, merges, with_session, kept, seat_after, retuned, Serving, grant, client_of, answered}
 use Rattle.serving.specs.Turns.{takes_query}
 use Rattle.serving.specs.declared.opening.Client.{Client}
 use Rattle.closings.proofs.Keeping.{Whole, live_id}
 use Rattle.serving.proofs.Kept.{since, kept_named, kept_streams, kept_place, kept_whole}
 use Rattle.serving.proofs.Passing.{Untested, own_live, own_stream, named_closable}
-use Rattle.serving.proofs.Branching.{merging_live}
+use Rattle.serving.proofs.Branching.{after_live}
 use Rattle.promises.proofs.Passing.{Changing, served_by}
 use Rattle.promises.proofs.Requests.{answered_by}
 use Rattle.promises.proofs.Keeps.{kept_since}
@@ -69,7 +68,7 @@ but last port playing s =
 
 -- a stream with the query merged into it
 abbrev pub queried : Stream → Asked → Lists → Stream
-queried m a l = (merge_of m a.codes l.pids l.delpids l.addpids).stream
+queried m a l = after_query m a.codes l.pids l.delpids l.addpids
 
 -- the stream of a session after its query, as `Methods` has it
 abbrev tuned : SatBox → Asked → Lists → Session → Stream
@@ -155,16 +154,16 @@ module _ (t : SatBox) (a : Asked) (l : Lists) (client : Client) (w : Whole t) (t
   merges_owner =
       rw (takes, own, ne_eqb now.stream 0 some, ne_eqb now.number 0 (named_closable t w a (sight_of t a) refl named).some, eq-eqb now.stream now.stream refl)
 
-  merging_own : merging t a l ≡ merge_of (stream_of t now.stream) a.codes l.pids l.delpids l.addpids
+  after_own : stream_after t a l ≡ queried (stream_of t now.stream) a l
   unfolding sight_of
-  merging_own =
-      subst (λ k. merging t a l ≡ merge_of (stream_of t k) a.codes l.pids l.delpids l.addpids) own
-      (merging_live t a l client (sight_of t a) refl (λ z. some (sym own ∙ z)))
+  after_own =
+      subst (λ k. stream_after t a l ≡ queried (stream_of t k) a l) own
+      (after_live t a l client (sight_of t a) refl (λ z. some (sym own ∙ z)))
 
   retuned_is : retuned t a l ≡ cond (not (eqb now.owner 0)) (restreamed now.stream (queried (stream_of t now.stream) a l) t) t
   retuned_is =
-      ap (λ b. cond b (restreamed a.stream (merging t a l).stream t) t) merges_owner
-      ∙ ap₂ (λ k (c : Change). cond (not (eqb now.owner 0)) (restreamed k c.stream t) t) own merging_own
+      ap (λ b. cond b (restreamed a.stream (stream_after t a l) t) t) merges_owner
+      ∙ ap₂ (λ k m. cond (not (eqb now.owner 0)) (restreamed k m t) t) own after_own
 
   retuning_quietly : {s : Session} → seat_after (sight_of t a) ≡ s → Quietly t (with_session at (seat_after (sight_of t a)) (retuned t a l)) at s now.stream (tuned t a l now)
   retuning_quietly is =

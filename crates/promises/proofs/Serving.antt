@@ -10,9 +10,8 @@ use Rattle.aim.specs.declared.Method.{Method}
 use Rattle.aim.specs.declared.Method.TheVariants.{Options, Setup, Play, Teardown, Other}
 use Rattle.reader.specs.declared.fields.Transport.{Transport}
 use Rattle.reader.specs.declared.fields.Transport.TheVariants.{Other as Missing, Port}
-use Rattle.stream.specs.Streams.{blank, is_sound, merge_of}
+use Rattle.stream.specs.Streams.{blank, is_sound, merge_of, after_query}
 use Rattle.stream.specs.Arrays.{are_fit}
-use Rattle.stream.specs.declared.Change.{Change}
 use Rattle.stream.proofs.Soundness.{blank_sound}
 use Rattle.stream.proofs.Keeping.{merge_sound}
 use Rattle.table.specs.Table.{session_at, stream_of}
@@ -21,7 +20,7 @@ use Rattle.table.specs.declared.SatBox.{SatBox}
 use Rattle.steps.specs.Sights.{Asked, Lists, port_of, sight_of}
 use Rattle.steps.specs.Steps.{is_setup, looks_up, is_named, is_passed}
 use Rattle.closings.specs.Closing.{nothing, restreamed}
-use Rattle.serving.specs.Serving.{merging, merges, with_session, seat_after, Serving, retuning, seating, grant, served}
+use Rattle.serving.specs.Serving.{merging, stream_after, merges, with_session, seat_after, Serving, retuning, seating, grant, served}
 use Rattle.serving.specs.Turns.{at_port, playing}
 use Rattle.serving.specs.declared.opening.Client.{Client}
 use Rattle.closings.proofs.Keeping.{Whole, closing_whole}
@@ -29,7 +28,7 @@ use Rattle.satbox.proofs.Kept.{merged_whole}
 use Rattle.serving.proofs.Kept.{replaced_whole, is_port, Seated, seated, proper}
 use Rattle.serving.proofs.OpeningKeeps.{Proper, joining_whole, feed_range, opening_whole}
 use Rattle.serving.proofs.Passing.{Untested, named_needed, named_closable, own_live}
-use Rattle.serving.proofs.Branching.{merging_new, merging_live}
+use Rattle.serving.proofs.Branching.{merging_new, merging_live, after_new, after_live}
 use Rattle.satbox.proofs.RequestLaws.{grant_passes}
 use Rattle.promises.proofs.Passing.{Changing, served_by, tears_closable, through_port, source, feed, through_merged, through_reached, can_open_law, new_merged}
 
@@ -81,10 +80,14 @@ module _ (t : SatBox) (a : Asked) (l : Lists) (client : Client) (w : Whole t) (f
     unfolding sight_of
     is_merging = merging_live t a l client (sight_of t a) refl (λ e. live (ap (λ k. (stream_of t k).frontend) e))
 
-    retuned_whole : merges (sight_of t a) ≡ true → Whole (restreamed a.stream (merging t a l).stream t)
+    is_after : stream_after t a l ≡ after_query (stream_of t a.stream) a.codes l.pids l.delpids l.addpids
+    unfolding sight_of
+    is_after = after_live t a l client (sight_of t a) refl (λ e. live (ap (λ k. (stream_of t k).frontend) e))
+
+    retuned_whole : merges (sight_of t a) ≡ true → Whole (restreamed a.stream (stream_after t a l) t)
     retuned_whole e =
-        let o = ap (λ (c : Change). c.outcome) (sym is_merging) ∙ through_merged t a l q e in
-        rw is_merging (merged_whole a.stream a.codes l.pids l.delpids l.addpids t w live fit.codes (through_reached t a l q e (λ z. live (ap (λ k. (stream_of t k).frontend) z))) o)
+        let o = rw is_merging at (through_merged t a l q e) in
+        rw is_after (merged_whole a.stream a.codes l.pids l.delpids l.addpids t w live fit.codes (through_reached t a l q e (λ z. live (ap (λ k. (stream_of t k).frontend) z))) o)
 
     -- and the session is changed in its place, where nothing else was
     changed_whole : (u : SatBox) → Whole u → session_at u (sight_of t a).place ≡ (sight_of t a).session → Whole (with_session (sight_of t a).place (seat_after (sight_of t a)) u)
@@ -99,7 +102,7 @@ module _ (t : SatBox) (a : Asked) (l : Lists) (client : Client) (w : Whole t) (f
     unfolding sight_of restreamed
     retuning_whole =
         cond_keeps (λ (u : SatBox). Whole (with_session (sight_of t a).place (seat_after (sight_of t a)) u)) (merges (sight_of t a)) _ t
-        (λ e. changed_whole (restreamed a.stream (merging t a l).stream t) (retuned_whole e) refl) (λ e. changed_whole t w refl)
+        (λ e. changed_whole (restreamed a.stream (stream_after t a l) t) (retuned_whole e) refl) (λ e. changed_whole t w refl)
 
   module _ (port : client.port ≡ port_of a.transport) (draw : client.draw < 4294967296) where
     -- A SETUP without a session
@@ -108,19 +111,19 @@ module _ (t : SatBox) (a : Asked) (l : Lists) (client : Client) (w : Whole t) (f
       unfolding sight_of
       proper_client = record { port = rw port (set_port (rw setup)); draw = draw }
 
-      pub new_sound : a.stream ≡ 0 → is_sound t.settings.frontends (merging t a l).stream ≡ true
+      pub new_sound : a.stream ≡ 0 → is_sound t.settings.frontends (stream_after t a l) ≡ true
       unfolding sight_of
       new_sound none =
           let f = feed_range (source t a) (feed t a) t (can_open_law t a l q setup stranger none) in
-          let e = merging_new t a l client (sight_of t a) refl none in
-          rw e
+          let o = rw (merging_new t a l client (sight_of t a) refl none) at (new_merged t a l q setup stranger none) in
+          rw (after_new t a l client (sight_of t a) refl none)
           (merge_sound (blank (feed t a)) a.codes l.pids l.delpids l.addpids t.settings.frontends (blank_sound t.settings.frontends (feed t a) f.0 f.1)
-          (λ z. omega (arith, f.0)) fit.codes (ap (λ (c : Change). c.outcome) (sym e) ∙ new_merged t a l q setup stranger none))
+          (λ z. omega (arith, f.0)) fit.codes o)
 
       seating_whole : Whole (seating t a l client).did.satbox
       seating_whole =
           cond_keeps (λ (x : Serving). Whole x.did.satbox) (eqb a.stream 0) _ _
-          (λ e. opening_whole (merging t a l).stream client t proper_client w (new_sound (eqb-true a.stream 0 e)))
+          (λ e. opening_whole (stream_after t a l) client t proper_client w (new_sound (eqb-true a.stream 0 e)))
           (λ e. joining_whole a.stream client t proper_client w)
 
     grant_whole : (m : Method) → a.method ≡ m → Whole (grant m t a l client).did.satbox

@@ -19,7 +19,7 @@ use Rattle.steps.specs.Steps.{is_named}
 use Rattle.closings.specs.Closing.{Did, nothing, then, restreamed, reseated, noting, closing, sweeping, at_clock}
 use Rattle.closings.specs.Does.{Closable}
 use Rattle.serving.specs.Serving.{guest, seating_as as seated, can_join, joining, can_open, opening}
-use Rattle.serving.specs.Serving.{merging, kept, Serving, retuning, seating, grant, served, client_of, answered}
+use Rattle.serving.specs.Serving.{stream_after, kept, Serving, retuning, seating, grant, served, client_of, answered}
 use Rattle.satbox.specs.Calls.{requested}
 use Rattle.serving.specs.declared.opening.Client.{Client}
 use Rattle.closings.proofs.Closings.{closing_fine, swept_fine}
@@ -81,7 +81,7 @@ module _ (t : SatBox) (a : Asked) (l : Lists) (w : Whole t) (fit : Fit a) (clien
     seating_recorded setup stranger =
         let c = proper_client t a l client w fit p q port draw setup stranger in
         cond_keeps (λ (x : Serving). Recorded t x.did) (eqb a.stream 0) _ _
-        (λ e. opening_recorded (merging t a l).stream client t c w (new_sound t a l client w fit p q port draw setup stranger (eqb-true a.stream 0 e)))
+        (λ e. opening_recorded (stream_after t a l) client t c w (new_sound t a l client w fit p q port draw setup stranger (eqb-true a.stream 0 e)))
         (λ e. joining_recorded a.stream client t draw w)
 
     grant_recorded : (m : Method) → a.method ≡ m → Recorded t (grant m t a l client).did
