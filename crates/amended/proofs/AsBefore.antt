@@ -57,8 +57,8 @@ unmerged_before t a = cond (eqb a.stream 0) (blank (feed_before t (sight_of t a)
 abbrev pub merging_before : SatBox → Asked → Lists → Result Stream Refusal
 merging_before t a l = merge_of (unmerged_before t a) a.codes l.pids l.delpids l.addpids
 
-abbrev pub stream_after_before : SatBox → Asked → Lists → Stream
-stream_after_before t a l = result_unwrap_or (merging_before t a l) (unmerged_before t a)
+abbrev pub queried_before : SatBox → Asked → Lists → Stream
+queried_before t a l = result_unwrap_or (merging_before t a l) (unmerged_before t a)
 
 -- 18: not "a new stream whose fe is held, or with no fe and no frontend free"
 abbrev pub can_open_before : ℕ → SatBox → Bool
@@ -81,13 +81,13 @@ opening_before m client t =
 
 abbrev pub retuning_before : SatBox → Asked → Lists → Serving
 retuning_before t a l =
-    granted (nothing (with_session (sight_of t a).place (seat_after (sight_of t a)) (cond (merges (sight_of t a)) (restreamed a.stream (stream_after_before t a l) t) t)))
+    granted (nothing (with_session (sight_of t a).place (seat_after (sight_of t a)) (cond (merges (sight_of t a)) (restreamed a.stream (queried_before t a l) t) t)))
     (seat_after (sight_of t a))
 
 abbrev pub seating_before : SatBox → Asked → Lists → Client → Serving
 seating_before t a l client =
     cond (eqb a.stream 0)
-    (granted (opening_before (stream_after_before t a l) client t) (guest 1 (lowest_id t.streams) client t))
+    (granted (opening_before (queried_before t a l) client t) (guest 1 (lowest_id t.streams) client t))
     (granted (joining a.stream client t) (guest 0 a.stream client t))
 
 abbrev pub grant_before : Method → SatBox → Asked → Lists → Client → Serving

@@ -39,7 +39,7 @@ use Rattle.serving.proofs.Branching.{merging_feed, merging_src}
 use Rattle.steps.proofs.ReplyLaws.{unread_passed}
 use Rattle.steps.proofs.Telling.{asked_fit}
 use Rattle.satbox.proofs.RequestLaws.{case_unread}
-use Rattle.amended.proofs.AsBefore.{lowest_frontend, feed_before, merging_before, stream_after_before, can_open_before, can_seat_before, case_before, opening_before, retuning_before, grant_before, served_before, answered_before, lowest}
+use Rattle.amended.proofs.AsBefore.{lowest_frontend, feed_before, merging_before, queried_before, can_open_before, can_seat_before, case_before, opening_before, retuning_before, grant_before, served_before, answered_before, lowest}
 
 -- what becomes of a query, by the two rules that may refuse it, is the same for any streams
 abbrev settled : Bool → Bool → Stream → Result Stream Refusal
@@ -131,7 +131,7 @@ module _ (t : SatBox) (w : Whole t) (reach : AllReach t.settings) where
     unfolding case_without
     case_alike = case_without_law t w reach a fit l ∙ rw (query_alike, seats_alike)
 
-    after_alike : feed_of t (sight_of t a) ≡ feed_before t (sight_of t a) → stream_after t a l ≡ stream_after_before t a l
+    after_alike : feed_of t (sight_of t a) ≡ feed_before t (sight_of t a) → stream_after t a l ≡ queried_before t a l
     unfolding merging
     after_alike e = rw e
 
@@ -149,7 +149,7 @@ module _ (t : SatBox) (w : Whole t) (reach : AllReach t.settings) where
       changing = (through t a l passed).1
 
       -- A SETUP WITHOUT ONE, for a new stream
-      opening_alike : a.method ≡ Setup → is_named (sight_of t a) ≡ false → a.stream ≡ 0 → opening (stream_after t a l) client t ≡ opening_before (stream_after_before t a l) client t
+      opening_alike : a.method ≡ Setup → is_named (sight_of t a) ≡ false → a.stream ≡ 0 → opening (stream_after t a l) client t ≡ opening_before (queried_before t a l) client t
       unfolding opening sight_of
       opening_alike setup stranger none =
           let m = stream_after t a l in

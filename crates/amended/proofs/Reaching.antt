@@ -24,6 +24,7 @@ use Rattle.steps.specs.declared.cases.Case.TheVariants.{Passed, NotReached, Full
 use Rattle.serving.specs.Serving.{source_of, merging, merges, merge_case, is_unreached, is_opening, can_seat, case_of}
 use Rattle.std.specs.Result.{IsOk}
 use Rattle.stream.specs.Values.{given}
+use Rattle.serving.proofs.ServingLaws.{merged_passes}
 use Rattle.stream.specs.Streams.{is_sound}
 use Rattle.stream.specs.Arrays.{is_in_range, is_fit, are_fit}
 use Rattle.stream.proofs.Soundness.{sound_live}
