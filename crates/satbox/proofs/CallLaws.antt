@@ -5,6 +5,7 @@ use mathlib.Core.List.{List, [], ◌∷◌, ◌++◌}
 use Prim.Native.Nat.{ℕ, ◌+◌, ◌-◌, ◌≤◌, ◌<◌, min, max}
 use native.Mathlib.Omega.{arith}
 use lib.Dec.{eqb, leb, ltb}
+use Rattle.std.specs.Prelude.{Option}
 use lib.ListN.{length, take, drop, length-take}
 use borrow.Author.Tests.{eqb-true, ltb-false, le-leb, lt-leb, leb-true, leb-false, not-true}
 use Rattle.scan.specs.Lists.{part}
@@ -41,7 +42,7 @@ pub clock_set : (t : SatBox) (clock n : ℕ) → n ≡ max t.clock clock
 unfolding at_clock
 clock_set t clock n e = rw e
 
-pub aged_swept : {t u r : SatBox} {j k : List ℕ} {due : Due} (clock : ℕ) → Whole t → u ≡ at_clock clock t → due ≡ aged_at u.clock → Does u j (closing_due due u) r k → Does (at_clock clock t) j (sweeping clock t) r k
+pub aged_swept : {t u r : SatBox} {j k : List ℕ} {due : Option Due} (clock : ℕ) → Whole t → u ≡ at_clock clock t → due ≡ aged_at u.clock → Does u j (closing_due due u) r k → Does (at_clock clock t) j (sweeping clock t) r k
 aged_swept {t} {u} {r} {j} {k} clock w e f p =
     let q = does_as (ap (λ d. closing_due d u) f ∙ swept_aged u (subst Whole (sym e) (clock_whole clock t w))) p in
     subst (λ x. Does x j (swept x) r k) e q

@@ -39,7 +39,7 @@ use Rattle.steps.proofs.ReplyLaws.{Follows, follows_passed, follows_refused, is_
 use Rattle.closings.specs.Does.{Does}
 use Rattle.closings.specs.Closing.{swept, sweeping, at_clock, bytes_of}
 use Rattle.serving.specs.Serving.{Serving, merging, merges, merge_case, is_unreached, is_opening, can_seat, case_of, kept, denied, grant, served, client_of, answered}
-use Rattle.serving.specs.Turns.{change_case, performed, TurnIs}
+use Rattle.serving.specs.Turns.{change_case, reason_of, about_of, performed, TurnIs}
 use Rattle.satbox.specs.Calls.{◌else◌and_then◌, if_done, request_outcome, requested, answer_of, replied, replied_into, replied_journal}
 use Rattle.satbox.specs.Branches.{Responds}
 use Rattle.serving.specs.declared.opening.Client.{Client}
@@ -107,8 +107,8 @@ module _ (s : List ℕ) (address draw : ℕ) (t : SatBox) (r : Request) (i : Req
       (λ n. follows_refused (ap Reading (sym i.refusal)) (ap reading.is_read i.refusal ∙ n))
 
   module _ {b d : List ℕ} {v : Turn} {a : Answer} {n : ℕ}
-      (p : TurnIs t (answered s address draw t) v) (m : Numbers v.session) (h : 4096 ≤ length b)
-      (e : a ≡ reply_to v.case r v.session) (w : Wrote b 0 (answer_text s a) d n) where
+      (p : TurnIs t (answered s address draw t) v) (m : Numbers (about_of v)) (h : 4096 ≤ length b)
+      (e : a ≡ reply_to (reason_of v) r (about_of v)) (w : Wrote b 0 (answer_text s a) d n) where
     answer_told : answer_text s a ≡ answer_to s address draw t
     answer_told =
         let x = answered s address draw t in

@@ -1,6 +1,5 @@
--- What a request comes to, as the few numbers that its change needs: what an opening would take, and its turn, beside the meaning's. Assumes
--- nothing.
-use Rattle.std.specs.Prelude.{ℕ, ◌+◌, ◌≤◌, ◌<◌, ◌≡◌, Bool, true, false, not, cond, ◌&&◌, ◌||◌, List, eqb, ltb, length, get_or, Result, Ok, Err}
+-- What a request comes to, as what its change needs: what an opening would take, and its turn, beside the meaning's. Assumes nothing.
+use Rattle.std.specs.Prelude.{ℕ, ◌+◌, ◌≤◌, ◌<◌, ◌≡◌, Bool, true, false, not, cond, ◌&&◌, ◌||◌, List, Option, Some, None, Result, Ok, Err, eqb, ltb, length, get_or}
 use Rattle.refusals.specs.Refusals as reading
 use Rattle.aim.specs.Aim.{method_number}
 use Rattle.aim.specs.declared.Method.{Method}
@@ -9,7 +8,7 @@ use Rattle.refusals.specs.declared.Refusal.{Refusal}
 use Rattle.reader.specs.Heads.{RequestIs}
 use Rattle.reader.specs.declared.Request.{Request}
 use Rattle.journal.specs.Records.{record_size}
-use Rattle.stream.specs.Streams.{no_stream, blank}
+use Rattle.stream.specs.Streams.{blank}
 use Rattle.stream.specs.declared.Stream.{Stream}
 use Rattle.stream.specs.declared.Refusal.{Refusal as Unmerged}
 use Rattle.table.specs.Table.{no_session, stream_of, owns, session_with}
@@ -25,10 +24,15 @@ use Rattle.steps.specs.declared.cases.Case.{Case}
 use Rattle.steps.specs.declared.cases.Case.TheVariants.{Passed, NotReached, Full, Reading}
 use Rattle.closings.specs.Closing.{Did, nothing, restreamed, noting, closing}
 use Rattle.closings.specs.Does.{Closable}
+use Rattle.closings.specs.Stamps.{codes_of}
+use Rattle.closings.specs.declared.change.Kind.{Kind}
+use Rattle.closings.specs.declared.change.Kind.TheVariants as kind
 use Rattle.serving.specs.Serving.{has_place, has_room, guest, can_open, Serving, source_of, feed_of, merging, merges, refusal_case, merge_case, is_unreached, is_opening, can_seat, with_session, seat_after}
 use Rattle.serving.specs.declared.opening.Client.{Client}
+use Rattle.serving.specs.declared.opening.Seat.{Seat}
 use Rattle.serving.specs.declared.opening.Offer.{Offer}
 use Rattle.serving.specs.declared.Turn.{Turn}
+use Rattle.serving.specs.declared.Turn.TheVariants.{Refused, Kept, Changed, Opened, Joined, Closed}
 use Rattle.scan.specs.Lists.{◌gives◌or◌}
 
 -- steps 16 to 18 alone
@@ -62,22 +66,19 @@ guest_of client number clock id owner =
       playing = 0;
     }
 
+-- a session at its place, where a test holds
+abbrev pub seat_if : Bool → ℕ → Session → Option Seat
+seat_if b place s = cond b (Some (record { place = place; session = s })) None
+
 abbrev pub new_offer : SatBox → ℕ → ℕ → Client → Offer
 new_offer t source feed client =
-    record {
-      seat = guest 1 (lowest_id t.streams) client t;
-      place = lowest_place t.sessions;
-      feed = feed;
-      whole = can_open source feed t;
-    }
+    record { feed = feed; seat = seat_if (can_open source feed t) (lowest_place t.sessions) (guest 1 (lowest_id t.streams) client t) }
 
 abbrev pub live_offer : SatBox → ℕ → ℕ → Client → Offer
 live_offer t id feed client =
     record {
-      seat = guest 0 id client t;
-      place = lowest_place t.sessions;
       feed = feed;
-      whole = has_place t && (not (eqb feed 0) && has_room t);
+      seat = seat_if (has_place t && (not (eqb feed 0) && has_room t)) (lowest_place t.sessions) (guest 0 id client t);
     }
 
 -- an ID and a frontend have eight bits; a larger number is none of either
@@ -88,91 +89,124 @@ abbrev pub offer_of : SatBox → Sight → Client → Offer
 offer_of t v client =
     cond (eqb v.stream 0) (new_offer t (source_of v) (is_small (feed_of t v)) client) (live_offer t (is_small v.stream) v.frontend client)
 
--- TURNS: none, of a call that is refused; a refusal, with the session that it names; a session changed in its place; one whose stream is set too; one
--- that opens, where nothing is lacking; one that closes
-abbrev pub no_turn : Turn
-no_turn = record { stream = no_stream; seat = no_session; session = no_session; place = 32; id = 0; kind = 0; case = Passed }
+-- TURNS: why a request is refused, and the session that its answer is about
+abbrev pub reason_of : Turn → Case
+reason_of (Refused case kept) = case
+reason_of (Kept seat) = Passed
+reason_of (Changed seat m) = Passed
+reason_of (Opened seat m) = Passed
+reason_of (Joined seat) = Passed
+reason_of (Closed seat) = Passed
+
+abbrev pub session_in : Option Seat → Session
+session_in None = no_session
+session_in (Some seat) = seat.session
+
+abbrev pub about_of : Turn → Session
+about_of (Refused case kept) = no_session
+about_of (Kept seat) = session_in seat
+about_of (Changed seat m) = seat.session
+about_of (Opened seat m) = seat.session
+about_of (Joined seat) = seat.session
+about_of (Closed seat) = seat.session
+
+-- the session that a request names, if any; and as it is after a SETUP or a PLAY
+abbrev pub named_seat : Sight → Option Seat
+named_seat v = seat_if (is_named v) v.place v.session
+
+abbrev pub changed_seat : Sight → Seat
+changed_seat v = record { place = v.place; session = seat_after v }
 
 abbrev pub denied_as : Sight → Case → Turn
-denied_as v case =
-    record { stream = no_stream; seat = v.session; session = no_session; place = v.place; id = 0; kind = 0; case = case }
+denied_as v case = Refused case (named_seat v)
 
-abbrev pub reseated_as : ℕ → Session → Session → Turn
-reseated_as place seat session =
-    record { stream = no_stream; seat = seat; session = session; place = place; id = 0; kind = 0; case = Passed }
-
-abbrev pub retuned_as : Sight → Stream → Turn
-retuned_as v m =
-    record { stream = m; seat = seat_after v; session = seat_after v; place = v.place; id = v.stream; kind = 0; case = Passed }
-
-abbrev pub opened_as : Offer → ℕ → ℕ → Stream → Turn
-opened_as o kind id m =
-    record { stream = m; seat = o.seat; session = o.seat; place = o.place; id = id; kind = kind; case = Passed }
-
-abbrev pub seated_as : Sight → Offer → ℕ → ℕ → Stream → Turn
-seated_as v o kind id m = cond o.whole (opened_as o kind id m) (denied_as v Full)
-
-abbrev pub left_as : Sight → Turn
-left_as v =
-    record { stream = no_stream; seat = no_session; session = v.session; place = v.place; id = 0; kind = 3; case = Passed }
+-- a turn that rests on what an opening would take
+abbrev pub if_seated : Sight → Option Seat → (Seat → Turn) → Turn
+if_seated v None f = denied_as v Full
+if_seated v (Some seat) f = f seat
 
 -- a turn that rests on a merged query
 abbrev pub if_merged : Sight → Result Stream Unmerged → (Stream → Turn) → Turn
 if_merged v (Ok m) turn = turn m
 if_merged v (Err refusal) turn = denied_as v (refusal_case refusal)
 
--- a SETUP for a new stream, and a SETUP or a PLAY of an open session, where c is what its query was merged to
+-- a SETUP for a new stream, one on a live stream, and a SETUP or a PLAY of an open session, where c is what its query was merged to
 unfoldable pub opened_by : Sight → Result Stream Unmerged → Offer → Turn
-opened_by v c o = if_merged v c (λ m. seated_as v o 1 o.seat.stream m)
+opened_by v c o = if_merged v c (λ m. if_seated v o.seat (λ seat. Opened seat m))
+
+unfoldable pub joined_by : Sight → Offer → Turn
+joined_by v o = if_seated v o.seat (λ seat. Joined seat)
 
 unfoldable pub retuned_by : Sight → Result Stream Unmerged → Turn
 retuned_by v c =
     cond (owns v.stream v.session)
-    (if_merged v c (λ m. cond (is_unreached v) (denied_as v NotReached) (retuned_as v m)))
-    (reseated_as v.place (seat_after v) (seat_after v))
+    (if_merged v c (λ m. cond (is_unreached v) (denied_as v NotReached) (Changed (changed_seat v) (Some m))))
+    (Changed (changed_seat v) None)
 
 unfoldable pub set_up_by : Sight → Result Stream Unmerged → Offer → Turn
-set_up_by v c o = cond (is_named v) (retuned_by v c) (cond (eqb v.stream 0) (opened_by v c o) (seated_as v o 2 0 no_stream))
+set_up_by v c o = cond (is_named v) (retuned_by v c) (cond (eqb v.stream 0) (opened_by v c o) (joined_by v o))
 
 abbrev pub method_turn : Method → Sight → Result Stream Unmerged → Offer → Turn
-method_turn Options v c o = reseated_as v.place v.session v.session
+method_turn Options v c o = Kept (named_seat v)
 method_turn Setup v c o = set_up_by v c o
 method_turn Play v c o = retuned_by v c
-method_turn Teardown v c o = left_as v
+method_turn Teardown v c o = Closed (record { place = v.place; session = v.session })
 method_turn Other v c o = denied_as v Passed
 
 -- THE TURN of a request that steps 1 to 15 let through or refused
 unfoldable pub turn_by : Sight → Result Stream Unmerged → Offer → Case → Turn
 turn_by v c o case = cond (is_passed case) (method_turn v.method v c o) (denied_as v case)
 
--- what a turn does: kind 3 closes; else the stream is set, and then the session in its place, with a record where there is a kind
-abbrev pub seated : Turn → SatBox → Did
-seated x t =
-    cond (eqb x.kind 0)
-    (nothing (with_session x.place x.seat t))
-    (noting x.kind 0 x.seat x.place x.seat t)
+-- what a turn does: a session set in its place, its stream set before it, an opening with its record, and a closing
+abbrev pub with_seat : Seat → SatBox → SatBox
+with_seat seat t = with_session seat.place seat.session t
+
+abbrev pub keeping : Option Seat → SatBox → SatBox
+keeping None t = t
+keeping (Some seat) t = with_seat seat t
+
+abbrev pub with_own : Seat → Option Stream → SatBox → SatBox
+with_own seat None t = t
+with_own seat (Some m) t = restreamed seat.session.stream m t
+
+abbrev pub seated : Kind → Seat → SatBox → Did
+seated kind seat t = noting (codes_of kind).0 (codes_of kind).1 seat.session seat.place seat.session t
 
 unfoldable pub performed : Turn → SatBox → Did
-performed x t = cond (eqb x.kind 3) (closing 1 x.place t) (seated x (restreamed x.id x.stream t))
+performed (Refused case kept) t = nothing (keeping kept t)
+performed (Kept seat) t = nothing (keeping seat t)
+performed (Changed seat m) t = nothing (with_seat seat (with_own seat m t))
+performed (Opened seat m) t = seated kind.Opened seat (restreamed seat.session.stream m t)
+performed (Joined seat) t = seated kind.Joined seat t
+performed (Closed seat) t = closing 1 seat.place t
 
 -- and that it can be done: what is set is of the table, and there is room for what is written
-pub record Seatable (t : SatBox) (x : Turn) : Type 0 where
-  pub below : x.place < 32
-  pub room : t.held + record_size ≤ t.settings.size
-  pub least : 1 ≤ x.seat.stream
-  pub most : x.seat.stream ≤ 8
+abbrev pub Placed : Option Seat → Type 0
+Placed None = Unit {0}
+Placed (Some seat) = seat.place < 32
 
-pub record Performable (t : SatBox) (x : Turn) : Type 0 where
-  pub id : x.id ≤ 8
-  pub none : x.kind ≡ 3 → x.id ≡ 0
-  pub closes : x.kind ≡ 3 → Closable t x.place
-  pub seats : (x.kind ≡ 0 → ⊥) → (x.kind ≡ 3 → ⊥) → Seatable t x
+pub record Homed (seat : Seat) : Type 0 where
+  pub below : seat.place < 32
+  pub least : 1 ≤ seat.session.stream
+  pub most : seat.session.stream ≤ 8
+
+pub record Seatable (t : SatBox) (seat : Seat) : Type 0 where
+  pub home : Homed seat
+  pub room : t.held + record_size ≤ t.settings.size
+
+abbrev pub Performable : SatBox → Turn → Type 0
+Performable t (Refused case kept) = Placed kept
+Performable t (Kept seat) = Placed seat
+Performable t (Changed seat m) = Homed seat
+Performable t (Opened seat m) = Seatable t seat
+Performable t (Joined seat) = Seatable t seat
+Performable t (Closed seat) = Closable t seat.place
 
 -- the turn x is the meaning y on the table t
 pub record TurnIs (t : SatBox) (y : Serving) (x : Turn) : Type 0 where
   pub did : performed x t ≡ y.did
-  pub session : x.session ≡ y.session
-  pub case : x.case ≡ y.case
+  pub session : about_of x ≡ y.session
+  pub case : reason_of x ≡ y.case
   pub can : Performable t x
 
 -- HOW FAR IT HAS COME: a request that was read, on a well-formed table with all its places

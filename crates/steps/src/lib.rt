@@ -39,11 +39,7 @@ pub struct Sight {
 fn is_absent(sent: reader::Session) -> bool
     ensures { result ≡ is_absent sent }
 {
-    match sent {
-        reader::Session::Absent => true,
-        reader::Session::Malformed => false,
-        reader::Session::Named(n) => false,
-    }
+    matches!(sent, reader::Session::Absent)
 }
 
 // The number that a Session header names; 0 where it names none, and no open session has it.
@@ -71,19 +67,14 @@ fn port_of(transport: Transport) -> u32
 pub fn sight_of(r: Request, place: usize, session: Session, frontend: u8, reach: u8) -> Sight
     ensures { result ≡ sighted (asked_by r) place session frontend reach }
 {
-    let sent = r.session;
-    let transport = r.transport;
-    let method = r.method;
-    let query = r.query;
-    let codes = r.codes;
     Sight {
-        method,
-        absent: is_absent(sent),
+        method: r.method,
+        absent: is_absent(r.session),
         stream: r.stream,
-        fe: codes[1],
-        src: codes[0],
-        query: query.start < query.end,
-        port: port_of(transport),
+        fe: r.codes[1],
+        src: r.codes[0],
+        query: r.query.start < r.query.end,
+        port: port_of(r.transport),
         place,
         session,
         frontend,

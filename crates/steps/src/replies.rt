@@ -42,15 +42,7 @@ fn kind_of(case: Case, method: Method) -> Kind
     match case {
         Case::Passed => granted_kind(method),
         Case::Reading(refusal) => refused_kind(refusal),
-        Case::NoSession => Kind::Bare,
-        Case::NotLive => Kind::Bare,
-        Case::State => Kind::Bare,
-        Case::NotOwner => Kind::Bare,
-        Case::Transport => Kind::Bare,
-        Case::Combination => Kind::Bare,
-        Case::TooManyPids => Kind::Bare,
-        Case::NotReached => Kind::Bare,
-        Case::Full => Kind::Bare,
+        _ => Kind::Bare,
     }
 }
 
@@ -69,18 +61,14 @@ fn word_of(case: Case, host: Span, require: Span) -> Span
 pub fn answer_to(case: Case, r: Request, s: Session) -> Answer
     ensures { result ≡ reply_to case r s }
 {
-    let method = r.method;
-    let cseq = r.cseq;
-    let host = r.host;
-    let require = r.require;
     Answer {
-        kind: kind_of(case, method),
+        kind: kind_of(case, r.method),
         status: cases::status(case) as u32,
-        cseq,
+        cseq: r.cseq,
         session: s.number,
         stream: s.stream as u32,
         address: s.address,
         port: s.port,
-        text: word_of(case, host, require),
+        text: word_of(case, r.host, r.require),
     }
 }
