@@ -1,12 +1,12 @@
 -- One header line, read at the byte that ends its name. Assumes nothing.
 use mathlib.Core.Path.{◌≡◌, refl, ap, ◌∙◌, sym}
-use mathlib.Core.Bool.{Bool, true, false, cond, ◌&&◌, and-true, and-false}
+use mathlib.Core.Bool.{Bool, true, false, cond, ◌&&◌, and-false}
 use mathlib.Core.List.{List, [], ◌∷◌}
 use Prim.Native.Nat.{ℕ, ◌+◌, ◌≤◌, ◌<◌}
 use native.Mathlib.Omega.{arith}
 use lib.Dec.{ltb, leb, eqb}
 use lib.ListN.{length, drop, get_or}
-use borrow.Author.Tests.{lt-ltb, le-ltb, ltb-true, leb-true, le-leb, lt-leb, eqb-true, ne_eqb}
+use borrow.Author.Tests.{lt-ltb, le-ltb, ltb-true, leb-true, le-leb, lt-leb, eqb-true, eqb-false, ne_eqb}
 use Rattle.scan.specs.Lists.{all, first, part, is_name, is_capital, are_name_bytes}
 use Rattle.scan.specs.Text.{seen, are_alike, trim, is, has, cut, place_among}
 use Rattle.scan.specs.Found.{FirstOf, Trimmed, leading, in_class, is_word}
@@ -14,52 +14,39 @@ use Rattle.scan.specs.declared.Class.TheVariants.{NotName}
 use Rattle.scan.specs.declared.Case.TheVariants.{Ignored}
 use Rattle.scan.specs.declared.Span.{Span}
 use native.Mathlib.Nat.{sub-zero}
-use native.Mathlib.Decide.{ℕ_discrete}
+use native.Mathlib.Decide.{ℕ_discrete, dec_lt}
 use Rattle.scan.proofs.Bools.{never, and_both, both, by_test, by_cases, Case, is as holds, isnt, case}
 use Rattle.scan.proofs.Loops.{seeking_start, seeking_hit, seeking_block, first_passes}
 use Rattle.scan.proofs.Compares.{alike_long}
 use Rattle.scan.proofs.Places.{place_alike}
 use Rattle.scan.proofs.Parts.{part_length, part_rest, holds_inside, named_by, name_ends, name_whole, name_not}
-use Rattle.lines.specs.Headers.{is_header, header_of}
-use Rattle.lines.specs.Laid.{known, header_colon, name_of, no_header, is_named, Named, HeaderIs}
-use Rattle.lines.specs.declared.Header.{Header}
+use Rattle.lines.specs.Headers.{is_header}
+use Rattle.lines.specs.Laid.{known, header_colon, name_of, name_number, is_named, Named, KnownHeader}
+use Rattle.lines.specs.declared.Name.{Name}
 
-none : (line : List ℕ) {r : Header} → r ≡ no_header → is_header line ≡ false → HeaderIs line r
-none line e n =
-    rw e (record { kind = rw n; value = λ y. absurd (omega arith); starts = λ y. absurd (omega arith); order = omega arith; within = omega arith })
+-- k is the place of the first byte that is none of a name's: the line is a header if a colon stands there, behind another byte
+pub header_law : (line : List ℕ) {k : ℕ} → FirstOf (in_class NotName) line k → is_header line ≡ ltb 0 k && (ltb k (length line) && eqb (get_or line k 0) 58)
+header_law line {k} f = by_cases (dec_lt k (length line)) within past
+  where
+    past : (k < length line → ⊥) → is_header line ≡ ltb 0 k && (ltb k (length line) && eqb (get_or line k 0) 58)
+    past n =
+        let c : FirstOf (is 58) line k = name_ends 58 refl f (λ h. absurd (n h)) in
+        let l : ltb k (length line) ≡ false = le-ltb k (length line) (omega arith) in
+        rw (named_by 58 line c, ← c.is, l, and-false)
 
--- k is the place of the first byte that is none of a name's
-module _ (line : List ℕ) {k : ℕ} (f : FirstOf (in_class NotName) line k) where
-  -- a colon stands there, or nothing
-  module _ (p : k < length line → get_or line k 0 ≡ 58) where
-    colon : FirstOf (is 58) line k
-    colon = name_ends 58 refl f p
+    within : k < length line → is_header line ≡ ltb 0 k && (ltb k (length line) && eqb (get_or line k 0) 58)
+    within h = by_test (λ t. eqb (get_or line k 0) 58 ≡ t → is_header line ≡ ltb 0 k && (ltb k (length line) && t)) (eqb (get_or line k 0) 58) colon other refl
+      where
+        l : ltb k (length line) ≡ true
+        l = lt-ltb k (length line) h
 
-    tests : is_header line ≡ ltb k (length line) && ltb 0 k
-    tests =
-        let e : is_header line ≡ ltb k (length line) && (ltb 0 k && all is_name (part 0 k line)) = rw (named_by 58 line colon, colon.is) in
-        e ∙ ap (λ t. ltb k (length line) && (ltb 0 k && t)) (sym (name_whole 58 refl f)) ∙ ap (λ t. ltb k (length line) && t) (and-true (ltb 0 k))
+        colon : eqb (get_or line k 0) 58 ≡ true → eqb (get_or line k 0) 58 ≡ true → is_header line ≡ ltb 0 k && (ltb k (length line) && true)
+        colon y _ =
+            let c : FirstOf (is 58) line k = name_ends 58 refl f (λ _. eqb-true (get_or line k 0) 58 y) in
+            rw (named_by 58 line c, ← c.is, l, ← name_whole 58 refl f)
 
-  pub header_bare : {r : Header} → r ≡ no_header → length line ≤ k → HeaderIs line r
-  header_bare e h = none line e (tests (λ l. absurd (omega arith)) ∙ rw (le-ltb k (length line) h))
-
-  pub header_misnamed : {r : Header} → r ≡ no_header → k < length line → (get_or line k 0 ≡ 58 → ⊥) → HeaderIs line r
-  header_misnamed e h n = none line e (simp (name_not 58 refl f h n, and-false))
-
-  module _ (c : get_or line k 0 ≡ 58) where
-    pub header_empty : {r : Header} → r ≡ no_header → k ≡ 0 → HeaderIs line r
-    header_empty e z = none line e (tests (λ _. c) ∙ rw z (and-false (ltb 0 (length line))))
-
-    pub header_other : (is_header line ≡ true → header_of line ≡ 5) → k < length line → (k ≡ 0 → ⊥) → HeaderIs line (record { kind = 5; start = 0; end = 0 })
-    header_other u h z =
-        let whole : is_header line ≡ true = tests (λ _. c) ∙ rw (lt-ltb 0 k (omega arith), lt-ltb k (length line) h) in
-        record {
-          kind = rw (whole, u whole);
-          value = λ y. absurd (omega arith);
-          starts = λ y. absurd (omega arith);
-          order = omega arith;
-          within = omega arith;
-        }
+        other : eqb (get_or line k 0) 58 ≡ false → eqb (get_or line k 0) 58 ≡ false → is_header line ≡ ltb 0 k && (ltb k (length line) && false)
+        other n _ = simp (name_not 58 refl f h (eqb-false (get_or line k 0) 58 n), and-false)
 
 -- A KNOWN NAME, with its colon: its bytes are a name's, whatever their case
 name_seen : (b : ℕ) → is_name (seen Ignored b) ≡ is_name b
@@ -118,8 +105,8 @@ module _ {line : List ℕ} {k c : ℕ} (d : Named line k c) where
       (seeking_block (is 58) is_name (λ b y. ne_eqb b 58 (λ q. never (ap is_name (sym q) ∙ y) refl)) (seeking_start (is 58) line) (omega arith) (omega arith) (sym d.names) refl)
       w (sym (ap (is 58) d.colon)) refl
 
-  pub header_known : (v : Span) → Trimmed (part (c + 1) (length line) line) v → HeaderIs line (record { kind = k; start = c + 1 + v.start; end = c + 1 + v.end })
-  header_known v w =
+  pub header_known : {name : Name} → k ≡ name_number name → (v : Span) → Trimmed (part (c + 1) (length line) line) v → KnownHeader line name (record { start = c + 1 + v.start; end = c + 1 + v.end })
+  header_known q v w =
       let l : c < length line = d.within in
       let f = ended in
       let e : is_header line ≡ ltb c (length line) && (ltb 0 c && all is_name (part 0 c line)) = rw (named_by 58 line f, f.is) in
@@ -127,9 +114,8 @@ module _ {line : List ℕ} {k c : ℕ} (d : Named line k c) where
       let rest : part (c + 1) (length line) line ≡ drop (header_colon line + 1) line = part_rest (c + 1) (length line) line (omega arith) ∙ ap (λ j. drop (j + 1) line) f.is in
       let held = holds_inside (c + 1) (length line) line refl (omega arith) (omega arith) w.holds in
       record {
-        kind = rw whole (d.place ∙ ap (λ j. place_among Ignored known (part 0 j line)) f.is);
-        value = λ _. rw (ap trim rest) at held;
-        starts = λ _. ap (λ j. c + 1 + j) (w.starts ∙ ap leading rest) ∙ ap (λ j. j + 1 + leading (drop (header_colon line + 1) line)) f.is;
-        order = held.order;
-        within = held.within;
+        header = whole;
+        kind = sym (ap (λ j. place_among Ignored known (part 0 j line)) f.is) ∙ sym d.place ∙ q;
+        value = rw (ap trim rest) at held;
+        starts = ap (λ j. c + 1 + j) (w.starts ∙ ap leading rest) ∙ ap (λ j. j + 1 + leading (drop (header_colon line + 1) line)) f.is;
       }

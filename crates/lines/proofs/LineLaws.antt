@@ -16,7 +16,10 @@ use Rattle.scan.specs.Text.{is_empty, push}
 use Rattle.scan.specs.declared.Class.TheVariants.{NotText}
 use Rattle.scan.proofs.Bools.{never, and_both, by_test, by_cases}
 use Rattle.lines.specs.Lines.{lines}
-use Rattle.lines.specs.Laid.{is_end, are_headers, are_all, is_pair_at}
+use Rattle.lines.specs.Laid.{is_end, are_headers, are_all, is_pair_at, LineIs}
+use Rattle.std.specs.Prelude.{Some, None}
+use Rattle.scan.proofs.Loops.{first_rest, first_within}
+use Rattle.scan.proofs.Parts.{part_rest}
 use Rattle.lines.specs.Headers.{is_header}
 
 -- CR LF at a place, counted by successors
@@ -155,3 +158,22 @@ last_line s p h = end_lines (drop p s) ∙ by_test (λ t. is_empty (drop p s) �
     more n =
         let l : p < length s = by_cases (dec_lt p (length s)) (λ k. k) (λ k. let z : p ≡ length s = omega arith in never (eq-eqb p (length s) z) n) in
         ap is_empty (drop-cons s p 0 l)
+
+-- CR LF at a place of the rest from place p on
+pair_rest : (s : List ℕ) (p k : ℕ) → is_pair_at (part p (length s) s) k ≡ is_pair_at s (p + k)
+pair_rest s p k =
+    let r : part p (length s) s ≡ drop p s = part_rest p (length s) s (omega arith) in
+    let n : p + (k + 1) ≡ p + k + 1 = omega arith in
+    ap (λ l. is_pair_at l k) r ∙ rw (get_or-drop p s k 0, get_or-drop p s (k + 1) 0, n)
+
+-- the line that starts at place p, where it is found; where it is not, no CR LF stands at its end
+pub line_found : (s : List ℕ) (p : ℕ) {k : ℕ} → p ≤ length s → LineIs (part p (length s) s) (Some k) → FirstFrom (in_class NotText) s p (p + k) × (true ≡ is_pair_at s (p + k))
+line_found s p {k} h i = (first_rest (in_class NotText) s p h i.0, sym (sym (pair_rest s p k) ∙ i.1))
+
+pub line_lost : (s : List ℕ) (p : ℕ) → p ≤ length s → LineIs (part p (length s) s) None → (e : ℕ) × FirstFrom (in_class NotText) s p e × (false ≡ is_pair_at s e)
+line_lost s p h i =
+    let k : ℕ = first (in_class NotText) (part p (length s) s) in (
+      p + k,
+      first_rest (in_class NotText) s p h (record { is = refl; within = first_within (in_class NotText) (part p (length s) s) }),
+      sym (sym (pair_rest s p k) ∙ i),
+    )

@@ -1,15 +1,21 @@
 -- What one pass over a request's lines finds: whether the layout is whole, and where the request line and the known headers stand. The crates
 -- promise it each other; no call of the box reaches it. Assumes nothing.
-use Rattle.std.specs.Prelude.{ℕ, ◌+◌, ◌≤◌, ◌<◌, min, ◌≡◌, Bool, true, false, cond, ◌&&◌, List, [], ◌∷◌, eqb, ltb, length, drop, get_or, replicate}
-use Rattle.scan.specs.Found.{Holds, place_in, leading}
+use Rattle.std.specs.Prelude.{ℕ, ◌+◌, ◌<◌, min, ◌≡◌, Bool, true, false, cond, ◌&&◌, List, [], ◌∷◌, eqb, ltb, length, drop, get_or, Option, Some, None}
+use Rattle.scan.specs.Found.{Holds, FirstOf, in_class, nowhere, place_in, leading}
 use Rattle.lines.specs.Headers.{is_header, header_of, values_of}
 use Rattle.lines.specs.Lines.{lines, are_lines, is_laid_out, request_line, header_lines}
+use Rattle.lines.specs.declared.Name.{Name}
+use Rattle.lines.specs.declared.Name.TheVariants.{CSeq, Session, Transport, Require, Accept}
 use Rattle.lines.specs.declared.Seen.{Seen}
+use Rattle.lines.specs.declared.Seen.TheVariants.{Never, Once, Again}
 use Rattle.lines.specs.declared.Header.{Header}
+use Rattle.lines.specs.declared.Header.TheVariants.{Known, Other}
 use Rattle.lines.specs.declared.Lines.{Lines}
 use Rattle.scan.specs.Lists.{first, all, part, is_name}
 use Rattle.scan.specs.Text.{is, before, after, text, trim, is_empty, are_alike, place_among}
 use Rattle.scan.specs.declared.Case.TheVariants.{Ignored}
+use Rattle.scan.specs.declared.Class.TheVariants.{NotText}
+use Rattle.scan.specs.declared.Span.{Span}
 
 -- the known headers, by their places
 abbrev pub known : List ℕ
@@ -39,9 +45,20 @@ first_start k at hs = place_in (λ h. eqb (header_of h) k) value_at 2 at hs
 abbrev pub is_named : List ℕ → List ℕ → Bool
 is_named name line = ltb (length name) (length line) && (eqb (get_or line (length name) 0) 58 && are_alike Ignored name (part 0 (length name) line))
 
--- how long the known names are
-abbrev pub colon_of : ℕ → ℕ
-colon_of k = cond (eqb k 0) 4 (cond (eqb k 2) 9 (cond (eqb k 4) 6 7))
+-- the place of a known name among them, and how long it is
+abbrev pub name_number : Name → ℕ
+name_number CSeq = 0
+name_number Session = 1
+name_number Transport = 2
+name_number Require = 3
+name_number Accept = 4
+
+abbrev pub name_length : Name → ℕ
+name_length CSeq = 4
+name_length Session = 7
+name_length Transport = 9
+name_length Require = 7
+name_length Accept = 6
 
 -- the line's name, which ends at c, has place k among the known ones
 pub record Named (line : List ℕ) (k c : ℕ) : Type 0 where
@@ -51,35 +68,53 @@ pub record Named (line : List ℕ) (k c : ℕ) : Type 0 where
   pub names : all is_name (part 0 c line) ≡ true
   pub place : k ≡ place_among Ignored known (part 0 c line)
 
--- r is the place of the line's name, 5 where it is not known or the line is no header
-pub record KnownIs (line : List ℕ) (r : ℕ) : Type 0 where
-  pub named : r < 5 → Named line r (colon_of r)
-  pub other : r ≡ 5 → is_header line ≡ true → header_of line ≡ 5
-  pub few : r ≤ 5
+-- the known name that the line has; without one it is no header, or one of another name
+abbrev pub KnownIs : List ℕ → Option Name → Type 0
+KnownIs line None = is_header line ≡ true → header_of line ≡ 5
+KnownIs line (Some name) = Named line (name_number name) (name_length name)
 
--- one line: its kind, 6 where it is no header, and where a known header's value stands
-pub record HeaderIs (line : List ℕ) (r : Header) : Type 0 where
-  pub kind : r.kind ≡ cond (is_header line) (header_of line) 6
-  pub value : r.kind < 5 → Holds line (header_value line) r.start r.end
-  pub starts : r.kind < 5 → r.start ≡ value_at line
-  pub order : r.start ≤ r.end
-  pub within : r.end ≤ length line
+-- a header of a known name, whose value stands there
+pub record KnownHeader (line : List ℕ) (name : Name) (place : Span) : Type 0 where
+  pub header : is_header line ≡ true
+  pub kind : header_of line ≡ name_number name
+  pub value : Holds line (header_value line) place.start place.end
+  pub starts : place.start ≡ value_at line
 
-abbrev pub no_header : Header
-no_header = record { kind = 6; start = 0; end = 0 }
+-- one line: none where it is no header
+abbrev pub HeaderIs : List ℕ → Option Header → Type 0
+HeaderIs line None = is_header line ≡ false
+HeaderIs line (Some Other) = (is_header line ≡ true) × (header_of line ≡ 5)
+HeaderIs line (Some (Known name value)) = KnownHeader line name value
+
+-- how often a header was sent, two standing for more, and where the first one's value stands
+abbrev pub times_of : Seen → ℕ
+times_of Never = 0
+times_of (Once value) = 1
+times_of (Again value) = 2
+
+abbrev pub place_of : Seen → Span
+place_of Never = nowhere
+place_of (Once value) = value
+place_of (Again value) = value
+
+abbrev pub first_seen : Seen → Option Span
+first_seen Never = None
+first_seen (Once value) = Some value
+first_seen (Again value) = Some value
 
 -- headers of one kind with these values were sent: how often, two standing for more, and where the first value stands in s
 pub record SeenIs (s : List ℕ) (values : List (List ℕ)) (seen : Seen) : Type 0 where
-  pub times : seen.times ≡ min (length values) 2
-  pub value : Holds s (first_value values) seen.start seen.end
+  pub times : times_of seen ≡ min (length values) 2
+  pub value : Holds s (first_value values) (place_of seen).start (place_of seen).end
 
 abbrev pub unseen : Seen
-unseen = record { times = 0; start = 0; end = 0 }
+unseen = Never
 
--- one more, with its value from start to end: the first value stays
-abbrev pub seen_again : Seen → ℕ → ℕ → Seen
-seen_again seen start end =
-    cond (eqb seen.times 0) (record { times = 1; start = start; end = end }) (record { times = 2; start = seen.start; end = seen.end })
+-- one more, with its value there: the first value stays
+abbrev pub seen_again : Seen → Span → Seen
+seen_again Never value = Once value
+seen_again (Once first) value = Again first
+seen_again (Again first) value = Again first
 
 -- nothing stands after the last pair
 abbrev pub is_end : List (List ℕ) → Bool
@@ -101,17 +136,17 @@ are_all ls = are_lines (λ l. true) ls
 abbrev pub is_pair_at : List ℕ → ℕ → Bool
 is_pair_at s at = eqb (get_or s at 0) 13 && eqb (get_or s (at + 1) 0) 10
 
--- what is given of a broken layout
-abbrev pub broken_lines : Lines
-broken_lines = record { headers = replicate 5 unseen; sound = false; line = 0 }
+-- how long the line is that the bytes start with; none where the first byte that is no text starts no CR LF
+abbrev pub LineIs : List ℕ → Option ℕ → Type 0
+LineIs s None = is_pair_at s (first (in_class NotText) s) ≡ false
+LineIs s (Some end) = FirstOf (in_class NotText) s end × (is_pair_at s end ≡ true)
 
 -- the header lines alone, where the request line ends at `line`
 pub record HeadersAre (s : List ℕ) (line : ℕ) (r : Lines) : Type 0 where
-  pub sound : r.sound ≡ are_headers (lines (drop (line + 2) s))
-  pub ended : r.sound ≡ true → r.line ≡ line
-  pub headers : r.sound ≡ true → (k : ℕ) → k < 5 → SeenIs s (values_of k (until_empty (lines (drop (line + 2) s)))) (get_or r.headers k unseen)
-  pub starts : r.sound ≡ true → (k : ℕ) → k < 5 → (get_or r.headers k unseen).start ≡ first_start k (line + 2) (until_empty (lines (drop (line + 2) s)))
-  pub none : r.sound ≡ false → r ≡ broken_lines
+  pub whole : are_headers (lines (drop (line + 2) s)) ≡ true
+  pub ended : r.line ≡ line
+  pub headers : (k : ℕ) → k < 5 → SeenIs s (values_of k (until_empty (lines (drop (line + 2) s)))) (get_or r.headers k unseen)
+  pub starts : (k : ℕ) → k < 5 → (place_of (get_or r.headers k unseen)).start ≡ first_start k (line + 2) (until_empty (lines (drop (line + 2) s)))
 
 -- where the first value of a kind starts in a request, 0 where there is none
 abbrev pub value_start : ℕ → List ℕ → ℕ
@@ -119,8 +154,7 @@ value_start k s = first_start k (length (request_line s) + 2) (header_lines s)
 
 -- the whole request
 pub record LinesAre (s : List ℕ) (r : Lines) : Type 0 where
-  pub sound : r.sound ≡ is_laid_out s
-  pub line : r.sound ≡ true → Holds s (request_line s) 0 r.line
-  pub headers : r.sound ≡ true → (k : ℕ) → k < 5 → SeenIs s (values_of k (header_lines s)) (get_or r.headers k unseen)
-  pub starts : r.sound ≡ true → (k : ℕ) → k < 5 → (get_or r.headers k unseen).start ≡ value_start k s
-  pub none : r.sound ≡ false → r ≡ broken_lines
+  pub whole : is_laid_out s ≡ true
+  pub line : Holds s (request_line s) 0 r.line
+  pub headers : (k : ℕ) → k < 5 → SeenIs s (values_of k (header_lines s)) (get_or r.headers k unseen)
+  pub starts : (k : ℕ) → k < 5 → (place_of (get_or r.headers k unseen)).start ≡ value_start k s

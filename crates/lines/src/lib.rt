@@ -3,48 +3,99 @@
 // that is as long, and once for its form where it is none of them, and at the outer spaces of a known header's value once more.
 #![tactic(auto)]
 
-ghost use Rattle.std.specs.Prelude.{◌≡◌, ◌+◌, ◌≤◌, length, true};
-ghost use Rattle.lines.specs.Headers.{is_header, header_of};
-ghost use Rattle.lines.specs.Laid.{no_header, is_named, KnownIs, colon_of, HeaderIs, seen_again, is_pair_at, broken_lines, HeadersAre, LinesAre};
+ghost use Rattle.std.specs.Prelude.{◌≡◌, ◌+◌, ◌≤◌, length, drop, get_or, false, MatchOption};
+ghost use Rattle.lines.specs.Headers.{is_header};
+ghost use Rattle.lines.specs.Lines.{lines, is_laid_out};
+ghost use Rattle.lines.specs.Laid.{is_named, name_length, name_number, KnownIs, HeaderIs, seen_again, first_seen, LineIs, are_headers, HeadersAre, LinesAre, unseen};
 
-use scan::{Case, Class};
+use scan::{Case, Class, Span};
 
-// What was seen of one kind of header: how often it was sent (2 for more), and where its first value stands.
+// The names of the known headers.
 #[derive(Clone, Copy)]
-pub struct Seen {
-    pub times: u8,
-    pub start: usize,
-    pub end: usize,
+pub enum Name {
+    CSeq,
+    Session,
+    Transport,
+    Require,
+    Accept,
 }
 
-// A header line: its place among the known headers, 5 for any other and 6 where it is no header; and where a known header's value stands.
-#[derive(Clone, Copy)]
-pub struct Header {
-    pub kind: usize,
-    pub start: usize,
-    pub end: usize,
+impl Name {
+    // Its place in the array of what was seen.
+    fn place(self) -> usize
+        ensures { result ≡ name_number self }
+    {
+        self as usize
+    }
+
+    // How long it is.
+    fn len(self) -> usize
+        ensures { result ≡ name_length self }
+    {
+        match self {
+            Name::CSeq => 4,
+            Name::Session => 7,
+            Name::Transport => 9,
+            Name::Require => 7,
+            Name::Accept => 6,
+        }
+    }
 }
 
-// A request's lines: whether the layout is whole, where the request line ends, and the headers by their kind.
+// What was seen of the headers of one name, and where the first one's value stands.
+#[derive(Clone, Copy)]
+pub enum Seen {
+    Never,
+    Once(Span),
+    // Twice or more often.
+    Again(Span),
+}
+
+impl Seen {
+    // Where the first one's value stands.
+    pub fn first(self) -> Option<Span>
+        ensures { result ≡ first_seen self }
+    {
+        match self {
+            Seen::Never => None,
+            Seen::Once(value) | Seen::Again(value) => Some(value),
+        }
+    }
+
+    // One header of the name more, whose value stands there.
+    fn again(self, value: Span) -> Seen
+        ensures { result ≡ seen_again self value }
+    {
+        match self {
+            Seen::Never => Seen::Once(value),
+            Seen::Once(first) | Seen::Again(first) => Seen::Again(first),
+        }
+    }
+}
+
+// A header line: of a known name, with the place of its value, or of any other.
+#[derive(Clone, Copy)]
+pub enum Header {
+    Known { name: Name, value: Span },
+    Other,
+}
+
+// A request's lines: what was seen of the known headers, each at its name's place, and where the request line ends.
 #[derive(Clone, Copy)]
 pub struct Lines {
     pub headers: [Seen; 5],
-    pub sound: bool,
     pub line: usize,
 }
 
 impl Lines {
     // The bytes that a request has at most.
     pub const LONGEST: usize = 2048;
-}
 
-fn no_header() -> Header
-    ensures { result ≡ no_header }
-{
-    Header {
-        kind: 6,
-        start: 0,
-        end: 0,
+    // What was seen of the headers of a name.
+    pub fn seen(&self, name: Name) -> Seen
+        ensures { result ≡ get_or self.now.headers (name_number name) unseen }
+    {
+        self.headers[name.place()]
     }
 }
 
@@ -53,201 +104,101 @@ fn is_named(line: &[u8], name: &[u8]) -> bool
     ensures { result ≡ is_named name.now line.now }
 {
     let n = name.len();
-    if line.len() <= n {
-        return false;
-    }
-    if line[n] != b':' {
-        return false;
-    }
-    scan::are_alike(name, &line[0..n], Case::Ignored)
+    n < line.len() && line[n] == b':' && scan::are_alike(name, &line[..n], Case::Ignored)
 }
 
-// The place of a line's name among the known ones, which are tried before the line is looked at for its name's end; 5 where it has none.
-fn known_in(line: &[u8]) -> usize
+// The known name that a line starts with; they are tried before the line is looked at for its name's end.
+fn known_in(line: &[u8]) -> Option<Name>
     ensures { KnownIs line.now result }
 {
     if is_named(line, b"CSeq") {
-        return 0;
+        return Some(Name::CSeq);
     }
     if is_named(line, b"Session") {
-        return 1;
+        return Some(Name::Session);
     }
     if is_named(line, b"Transport") {
-        return 2;
+        return Some(Name::Transport);
     }
     if is_named(line, b"Require") {
-        return 3;
+        return Some(Name::Require);
     }
     if is_named(line, b"Accept") {
-        return 4;
+        return Some(Name::Accept);
     }
-    5
+    None
 }
 
-// How long a known name is.
-fn colon_of(kind: usize) -> usize
-    ensures { result ≡ colon_of kind }
-{
-    if kind == 0 {
-        return 4;
-    }
-    if kind == 2 {
-        return 9;
-    }
-    if kind == 4 {
-        return 6;
-    }
-    7
-}
-
-// A header line whose name is not known, if it is a header.
-fn other_in(line: &[u8]) -> Header
-    requires { is_header line.now ≡ true → header_of line.now ≡ 5 }
-    ensures { HeaderIs line.now result }
+// Whether a line is a header.
+fn is_header(line: &[u8]) -> bool
+    ensures { result ≡ is_header line.now }
 {
     let colon = scan::first_in(line, Class::NotName);
-    if line.len() <= colon {
-        return no_header();
-    }
-    if line[colon] != b':' {
-        return no_header();
-    }
-    if colon == 0 {
-        return no_header();
-    }
-    Header {
-        kind: 5,
-        start: 0,
-        end: 0,
-    }
+    0 < colon && colon < line.len() && line[colon] == b':'
 }
 
 // Reads one header line.
-fn header_in(line: &[u8]) -> Header
+fn header_in(line: &[u8]) -> Option<Header>
     ensures { HeaderIs line.now result }
 {
-    let kind = known_in(line);
-    if kind == 5 {
-        return other_in(line);
-    }
-    let after = colon_of(kind) + 1;
+    let Some(name) = known_in(line) else {
+        return is_header(line).then_some(Header::Other);
+    };
+    let after = name.len() + 1;
     let value = scan::trimmed(&line[after..]);
-    Header {
-        kind,
-        start: after + value.start,
-        end: after + value.end,
-    }
+    Some(Header::Known {
+        name,
+        value: Span {
+            start: after + value.start,
+            end: after + value.end,
+        },
+    })
 }
 
-// One header of a kind more, whose value stands there.
-fn again(seen: Seen, start: usize, end: usize) -> Seen
-    ensures { result ≡ seen_again seen start end }
+// How long the line is that a text starts with, where CR LF ends it.
+fn line_in(s: &[u8]) -> Option<usize>
+    ensures { LineIs s.now result }
 {
-    if seen.times == 0 {
-        return Seen {
-            times: 1,
-            start,
-            end,
-        };
-    }
-    Seen {
-        times: 2,
-        start: seen.start,
-        end: seen.end,
-    }
-}
-
-// Whether CR LF stands at a place.
-fn is_pair(s: &[u8], at: usize) -> bool
-    ensures { result ≡ is_pair_at s.now at }
-{
-    if s.len() <= at {
-        return false;
-    }
-    if s.len() - at < 2 {
-        return false;
-    }
-    (s[at] == 13) & (s[at + 1] == 10)
-}
-
-fn broken() -> Lines
-    ensures { result ≡ broken_lines }
-{
-    Lines {
-        headers: [Seen {
-            times: 0,
-            start: 0,
-            end: 0,
-        }; 5],
-        sound: false,
-        line: 0,
-    }
+    let end = scan::text_end(s);
+    matches!(&s[end..], [b'\r', b'\n', ..]).then_some(end)
 }
 
 // Reads the header lines after a request line that ends at a place.
-fn headers_after(s: &[u8], line: usize) -> Lines
+fn headers_after(s: &[u8], line: usize) -> Option<Lines>
     requires { line + 2 ≤ length s.now }
-    ensures { HeadersAre s.now line result }
+    ensures { MatchOption result (are_headers (lines (drop (line + 2) s.now)) ≡ false) (HeadersAre s.now line) }
 {
-    let mut headers = [Seen {
-        times: 0,
-        start: 0,
-        end: 0,
-    }; 5];
-    let mut p = line + 2;
+    let mut headers = [Seen::Never; 5];
+    let mut from = line + 2;
     loop {
-        let e = p + scan::text_end(&s[p..]);
-        if !is_pair(s, e) {
-            return broken();
+        let end = from + line_in(&s[from..])?;
+        if end == from {
+            return (end + 2 == s.len()).then_some(Lines { headers, line });
         }
-        if e == p {
-            if e + 2 == s.len() {
-                return Lines {
-                    headers,
-                    sound: true,
-                    line,
-                };
-            }
-            return broken();
+        if let Header::Known { name, value } = header_in(&s[from..end])? {
+            let seen = &mut headers[name.place()];
+            *seen = seen.again(Span {
+                start: from + value.start,
+                end: from + value.end,
+            });
         }
-        let h = header_in(&s[p..e]);
-        let kind = h.kind;
-        if 5 < kind {
-            return broken();
-        }
-        let start = p;
-        p = e + 2;
-        if kind == 5 {
-            continue;
-        }
-        headers[kind] = again(headers[kind], start + h.start, start + h.end);
+        from = end + 2;
     }
 }
 
-// Reads a request's lines.
-pub fn read_lines(s: &[u8]) -> Lines
-    ensures { LinesAre s.now result }
+// Reads a request's lines, where its layout is whole.
+pub fn read_lines(s: &[u8]) -> Option<Lines>
+    ensures { MatchOption result (is_laid_out s.now ≡ false) (LinesAre s.now) }
 {
     if Lines::LONGEST < s.len() {
-        return broken();
+        return None;
     }
-    let line = scan::text_end(s);
-    if !is_pair(s, line) {
-        return broken();
-    }
+    let line = line_in(s)?;
     if line == 0 {
-        if s.len() == 2 {
-            return Lines {
-                headers: [Seen {
-                    times: 0,
-                    start: 0,
-                    end: 0,
-                }; 5],
-                sound: true,
-                line: 0,
-            };
-        }
-        return broken();
+        return (s.len() == 2).then_some(Lines {
+            headers: [Seen::Never; 5],
+            line,
+        });
     }
     headers_after(s, line)
 }

@@ -5,3 +5,4 @@ pub mod Compares
 pub mod Trims
 pub mod Cuts
 pub mod Places
+pub mod Options

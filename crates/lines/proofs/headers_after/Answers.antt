@@ -1,34 +1,33 @@
 use Prim.Native.Nat.{◌+◌}
-use mathlib.Core.Path.{◌≡◌, ◌∙◌}
-use mathlib.Core.Bool.{true}
-use borrow.Author.Tests.{eq-eqb, ne_eqb}
-use Rattle.scan.specs.Found.{FirstFrom, in_class}
-use Rattle.scan.specs.declared.Class.TheVariants.{NotText}
-use Rattle.scan.proofs.Loops.{first_rest}
-use Rattle.lines.proofs.SeenLaws.{noting_bad, noting_end, noting_not, noting_unknown, noting_more, headers_broken, headers_whole}
-use Rattle.std.proofs.Common.{◌≡◌}
+use mathlib.Core.Path.{◌∙◌, refl}
+use Rattle.scan.specs.Lists.{part}
+use Rattle.scan.proofs.Options.{by_some}
+use Rattle.lines.specs.Laid.{HeaderIs}
+use Rattle.std.specs.Prelude.{Some}
+use Rattle.lines.specs.declared.Header.TheVariants.{Other}
+use Rattle.lines.proofs.LineLaws.{line_found, line_lost}
+use Rattle.lines.proofs.SeenLaws.{noting_bad, noting_end, noting_not, noting_unknown, noting_more, headers_whole}
+use Rattle.lines.proofs.headers_after.Goals.{in-Known, in_default}
 use Rattle.lines.proofs.headers_after.Goals as goal
 
-pub returns-then-not-is_pair : goal.returns-then-not-is_pair
-returns-then-not-is_pair c = headers_broken c.broken.ensures (noting_bad c.loop-headers.invariant ((let fact : FirstFrom (in_class NotText) ((c.args.s.now)) c.loop-headers.p ((c.loop-headers.p + c.text_end.result)) = first_rest _ _ _ c.loop-headers.invariant.inside c.text_end.ensures in fact)) c.is_pair.ensures (c.if-not-is_pair.true))
+pub returns-in_err-end : goal.returns-in_err-end
+returns-in_err-end c = let f = line_lost c.args.s.now c.loop-end.from c.loop-end.invariant.inside c.in_err-end.ensures in
+    rw c.from_residual.ensures (noting_bad c.loop-end.invariant f.1 f.2 refl)
 
-pub returns-then-e-s : goal.returns-then-e-s
-returns-then-e-s c = let n = noting_end c.loop-headers.invariant ((let fact : FirstFrom (in_class NotText) ((c.args.s.now)) c.loop-headers.p ((c.loop-headers.p + c.text_end.result)) = first_rest _ _ _ c.loop-headers.invariant.inside c.text_end.ensures in fact)) c.is_pair.ensures ((let fact : c.is_pair.result ≡ true = c.if-not-is_pair.false in fact)) c.if-e-p.true in
-    headers_whole (n.0 ∙ eq-eqb _ _ c.if-e-s.true) n.1 n.2
+pub returns-then-end-from : goal.returns-then-end-from
+returns-then-end-from c = let f = line_found c.args.s.now c.loop-end.from c.loop-end.invariant.inside c.in_ok-end.ensures in
+    let n = noting_end c.loop-end.invariant f.0 f.1 refl c.if-end-from.true in
+    rw c.then_some.ensures (by_some _ _ _ _ (λ y. headers_whole (n.0 ∙ y) n.1 n.2) (λ z. n.0 ∙ z))
 
-pub returns-then-e-p : goal.returns-then-e-p
-returns-then-e-p c = let n = noting_end c.loop-headers.invariant ((let fact : FirstFrom (in_class NotText) ((c.args.s.now)) c.loop-headers.p ((c.loop-headers.p + c.text_end.result)) = first_rest _ _ _ c.loop-headers.invariant.inside c.text_end.ensures in fact)) c.is_pair.ensures ((let fact : c.is_pair.result ≡ true = c.if-not-is_pair.false in fact)) c.if-e-p.true in
-    headers_broken c.broken-then-e-p.ensures (n.0 ∙ ne_eqb _ _ c.if-e-s.false)
+pub returns-in_err-name : goal.returns-in_err-name
+returns-in_err-name c = let f = line_found c.args.s.now c.loop-end.from c.loop-end.invariant.inside c.in_ok-end.ensures in
+    rw c.from_residual-in_err-name.ensures (noting_not c.loop-end.invariant f.0 f.1 refl c.if-end-from.false c.in_err-name.ensures)
 
-pub returns-then-kind-gt5 : goal.returns-then-kind-gt5
-returns-then-kind-gt5 c = headers_broken c.broken-then-kind-gt5.ensures
-    (noting_not c.loop-headers.invariant ((let fact : FirstFrom (in_class NotText) ((c.args.s.now)) c.loop-headers.p ((c.loop-headers.p + c.text_end.result)) = first_rest _ _ _ c.loop-headers.invariant.inside c.text_end.ensures in fact)) c.is_pair.ensures ((let fact : c.is_pair.result ≡ true = c.if-not-is_pair.false in fact)) c.if-e-p.false c.header_in-h.ensures c.if-kind-gt5.true)
-
-pub loop-headers-preserved-then-kind-eq5 : goal.loop-headers-preserved-then-kind-eq5
-loop-headers-preserved-then-kind-eq5 c = noting_unknown c.loop-headers.invariant ((let fact : FirstFrom (in_class NotText) ((c.args.s.now)) c.loop-headers.p ((c.loop-headers.p + c.text_end.result)) = first_rest _ _ _ c.loop-headers.invariant.inside c.text_end.ensures in fact)) c.is_pair.ensures ((let fact : c.is_pair.result ≡ true = c.if-not-is_pair.false in fact)) c.if-e-p.false c.header_in-h.ensures c.if-kind-gt5.false
-    c.if-kind-eq5.true
-
-pub loop-headers-preserved : goal.loop-headers-preserved
-loop-headers-preserved c = rw c.again.ensures
-    (noting_more c.loop-headers.invariant ((let fact : FirstFrom (in_class NotText) ((c.args.s.now)) c.loop-headers.p ((c.loop-headers.p + c.text_end.result)) = first_rest _ _ _ c.loop-headers.invariant.inside c.text_end.ensures in fact)) c.is_pair.ensures ((let fact : c.is_pair.result ≡ true = c.if-not-is_pair.false in fact)) c.if-e-p.false c.header_in-h.ensures c.if-kind-gt5.false
-    c.if-kind-eq5.false)
+pub loop-end-preserved : goal.loop-end-preserved
+loop-end-preserved c = let f = line_found c.args.s.now c.loop-end.from c.loop-end.invariant.inside c.in_ok-end.ensures in
+    elim c.match-branch-3.branch [
+      | in-Known w ↦ rw (w.headers-is, w.again.ensures, w.place.ensures) (noting_more c.loop-end.invariant f.0 f.1 refl c.if-end-from.false (rw w.in-Known.is at c.in_ok-name.ensures))
+      | in_default w ↦
+          let h : HeaderIs (part c.loop-end.from (c.loop-end.from + c.in_ok-end.field-0) c.args.s.now) (Some Other) = rw w.in_default.is at c.in_ok-name.ensures in
+          rw w.headers-is (noting_unknown c.loop-end.invariant f.0 f.1 refl c.if-end-from.false h.0 h.1)
+    ]

@@ -4,8 +4,8 @@ use Rattle.lines.specs.Lines.{lines}
 use Rattle.lines.proofs.SeenLaws.{Noting}
 use Rattle.lines.proofs.headers_after.Given as goal
 
-abbrev pub invariant-loop-headers : goal.invariant-loop-headers
-invariant-loop-headers l = Noting l.s (lines (drop (l.line + 2) l.s)) (l.line + 2) l.p l.headers
+abbrev pub invariant-loop-end : goal.invariant-loop-end
+invariant-loop-end l = Noting l.s (lines (drop (l.line + 2) l.s)) (l.line + 2) l.from l.headers
 
-abbrev pub decreases-loop-headers : goal.decreases-loop-headers
-decreases-loop-headers l = length l.s - l.p
+abbrev pub decreases-loop-end : goal.decreases-loop-end
+decreases-loop-end l = length l.s - l.from
