@@ -10,12 +10,10 @@ use borrow.Author.Tests.{eqb-true, eqb-false, ne_eqb}
 use Rattle.scan.specs.Lists.{all, first, part}
 use Rattle.scan.specs.Found.{FirstFrom, cut_from}
 use Rattle.scan.specs.Text.{is, cut, is_empty}
-use Rattle.scan.proofs.Bools.{never}
 use Rattle.scan.proofs.Parts.{part_empty, some_part}
 use Rattle.scan.proofs.Cuts.{cut_start, cut_turn, cut_end}
 use Rattle.target.specs.Line.{is_three}
-use Rattle.target.specs.Steps.{PartsAre, no_parts}
-use Rattle.target.specs.declared.Parts.{Parts}
+use Rattle.target.specs.Steps.{PartsAre}
 
 -- a part is empty where it ends at its start
 empty_part : (a e : ℕ) (s : List ℕ) → a ≤ e → e ≤ length s → is_empty (part a e s) ≡ eqb e a
@@ -37,39 +35,28 @@ nor false false false = refl
 four : (a b c d : List ℕ) (ls : List (List ℕ)) → are_three (a ∷ b ∷ c ∷ d ∷ ls) ≡ false
 four a b c d ls = rw (ne_eqb (length (a ∷ b ∷ c ∷ d ∷ ls)) 3 (λ q. omega arith))
 
-other : {s : List ℕ} {r : Parts} → r ≡ no_parts → is_three s ≡ false → PartsAre s r
-other {s} {r} e n =
-    rw e
-    (record {
-      sound = sym n;
-      method = λ t. never t refl;
-      uri = λ t. never t refl;
-      version = λ t. never t refl;
-      broken = λ t. refl;
-    })
-
 module _ {s : List ℕ} {i : ℕ} (f : FirstFrom (is 32) s 0 i) where
   one : cut 32 s ≡ part 0 i s ∷ cut_from 32 (i + 1) s
   one = cut_start 32 s ∙ cut_turn 32 0 s (omega arith) f.is
 
-  pub one_part : {r : Parts} → r ≡ no_parts → length s ≤ i → PartsAre s r
-  one_part e h = other e (ap are_three one ∙ rw (cut_end 32 (i + 1) s (omega arith)))
+  pub one_part : length s ≤ i → is_three s ≡ false
+  one_part h = ap are_three one ∙ rw (cut_end 32 (i + 1) s (omega arith))
 
   module _ (h : i < length s) {j : ℕ} (g : FirstFrom (is 32) s (i + 1) j) where
     two : cut 32 s ≡ part 0 i s ∷ part (i + 1) j s ∷ cut_from 32 (j + 1) s
     two = one ∙ ap (λ l. part 0 i s ∷ l) (cut_turn 32 (i + 1) s (omega arith) g.is)
 
-    pub two_parts : {r : Parts} → r ≡ no_parts → length s ≤ j → PartsAre s r
-    two_parts e k = other e (ap are_three two ∙ rw (cut_end 32 (j + 1) s (omega arith)))
+    pub two_parts : length s ≤ j → is_three s ≡ false
+    two_parts k = ap are_three two ∙ rw (cut_end 32 (j + 1) s (omega arith))
 
     module _ (k : j < length s) {m : ℕ} (l : FirstFrom (is 32) s (j + 1) m) where
       three : cut 32 s ≡ part 0 i s ∷ part (i + 1) j s ∷ part (j + 1) m s ∷ cut_from 32 (m + 1) s
       three = two ∙ ap (λ ls. part 0 i s ∷ part (i + 1) j s ∷ ls) (cut_turn 32 (j + 1) s (omega arith) l.is)
 
-      pub more_parts : {r : Parts} → r ≡ no_parts → m < length s → PartsAre s r
-      more_parts e n =
+      pub more_parts : m < length s → is_three s ≡ false
+      more_parts n =
           let d : ℕ = m + 1 + first (is 32) (drop (m + 1) s) in
-          other e (ap are_three three ∙ rw (cut_turn 32 (m + 1) s (omega arith) refl) (four (part 0 i s) (part (i + 1) j s) (part (j + 1) m s) (part (m + 1) d s) (cut_from 32 (d + 1) s)))
+          ap are_three three ∙ rw (cut_turn 32 (m + 1) s (omega arith) refl) (four (part 0 i s) (part (i + 1) j s) (part (j + 1) m s) (part (m + 1) d s) (cut_from 32 (d + 1) s))
 
       module _ (n : length s ≤ m) where
         just : cut 32 s ≡ part 0 i s ∷ part (i + 1) j s ∷ part (j + 1) (length s) s ∷ []
@@ -85,16 +72,15 @@ module _ {s : List ℕ} {i : ℕ} (f : FirstFrom (is 32) s 0 i) where
             ∙ rw (empty_part 0 i s (omega arith) (omega arith), empty_part (i + 1) j s o (omega arith), empty_part (j + 1) (length s) s (omega arith) (omega arith))
             (nor (eqb i 0) (eqb j (i + 1)) (eqb (length s) (j + 1)))
 
-        pub empty_parts : {r : Parts} → r ≡ no_parts → eqb i 0 || eqb j (i + 1) || eqb (length s) (j + 1) ≡ true → PartsAre s r
-        empty_parts e t = other e (filled ∙ ap not t)
+        pub empty_parts : eqb i 0 || eqb j (i + 1) || eqb (length s) (j + 1) ≡ true → is_three s ≡ false
+        empty_parts t = filled ∙ ap not t
 
-        pub three_parts : eqb i 0 || eqb j (i + 1) || eqb (length s) (j + 1) ≡ false → PartsAre s (record { sound = true; first = i; second = j })
+        pub three_parts : eqb i 0 || eqb j (i + 1) || eqb (length s) (j + 1) ≡ false → PartsAre s (record { first = i; second = j })
         three_parts t =
             let o : i + 1 ≤ j = g.from in
             record {
-              sound = sym (filled ∙ ap not t);
-              method = λ y. record { order = omega arith; within = omega arith; is = sym (ap (λ ls. get_or ls 0 []) just) };
-              uri = λ y. record { order = o; within = omega arith; is = sym (ap (λ ls. get_or ls 1 []) just) };
-              version = λ y. record { order = omega arith; within = omega arith; is = sym (ap (λ ls. get_or ls 2 []) just) };
-              broken = λ y. never refl y;
+              three = filled ∙ ap not t;
+              method = record { order = omega arith; within = omega arith; is = sym (ap (λ ls. get_or ls 0 []) just) };
+              uri = record { order = o; within = omega arith; is = sym (ap (λ ls. get_or ls 1 []) just) };
+              version = record { order = omega arith; within = omega arith; is = sym (ap (λ ls. get_or ls 2 []) just) };
             }

@@ -3,8 +3,8 @@
 use mathlib.Core.Path.{◌≡◌, refl, ap, ap₂, sym, ◌∙◌}
 use mathlib.Core.Bool.{Bool, true, false, not, cond, ◌&&◌, and-true, and-false}
 use mathlib.Core.List.{List, [], ◌∷◌}
-use Prim.Native.Nat.{ℕ, zero, suc, ◌+◌, ◌-◌, ◌≤◌, ◌<◌}
-use native.Mathlib.Decide.{dec_lt}
+use Prim.Native.Nat.{ℕ, suc, ◌+◌, ◌-◌, ◌≤◌, ◌<◌}
+use native.Mathlib.Decide.{dec_lt, ℕ_discrete}
 use native.Mathlib.Nat.{zero-add, sub-zero}
 use native.Mathlib.Numerals.{add-one}
 use native.Mathlib.Omega.{arith}
@@ -25,9 +25,10 @@ use Rattle.digits.specs.Reading.{digit_of, are_digits, spelled, is_value, at_lea
 use Rattle.digits.specs.declared.Zeros.TheVariants.{Refused}
 use Rattle.digits.specs.declared.Read.{Read}
 use Rattle.digits.specs.declared.Read.TheVariants.{Value, Nothing}
-use Rattle.target.specs.Uri.{starts_with, rest_of, is_port, stream_of_path, stream_named, host_of, has_query, is_uri}
-use Rattle.target.specs.Steps.{question, slash, port_colon, is_host, UriIs, no_uri, is_port_number, host_end}
-use Rattle.target.specs.declared.Uri.{Uri}
+use Rattle.target.specs.Uri.{starts_with, rest_of, is_port, stream_of_path, stream_named, host_of, has_query, query_of, is_uri}
+use Rattle.target.specs.Steps.{question, slash, port_colon, is_host, UriIs, is_port_number, host_end}
+use Rattle.std.specs.Prelude.{Option, Some, None, IfSome}
+use Rattle.std.specs.Bool.{then_some}
 
 -- A TEXT THAT STARTS WITH ANOTHER is no shorter
 pub starts_short : (t u : List ℕ) → length u < length t → false ≡ starts_with t u
@@ -40,62 +41,54 @@ starts_long t u {r} e n =
     by_cases (dec_lt (length u) (length t)) (λ h. never (not-false r n) (e ∙ sym (starts_short t u h))) (λ h. omega arith)
 
 -- THE HOST AND THE PORT
--- a host that ends at 0 is none
-or_none : (k : ℕ) → k ≡ cond (ltb 0 k) k 0
-or_none zero = refl
-or_none (suc k) = rw (lt-ltb 0 (suc k) (omega arith))
-
 module _ {a : List ℕ} {k : ℕ} (g : FirstOf (in_class NotName) a k) where
-  pub host_not : (k ≡ length a → ⊥) → (get_or a k 0 ≡ 58 → ⊥) → 0 ≡ host_end a
+  pub host_not : (k ≡ length a → ⊥) → (get_or a k 0 ≡ 58 → ⊥) → None ≡ host_end a
   host_not z n =
       let w : k ≤ length a = g.within in
       sym (simp (name_not 58 refl g (omega arith) n, and-false))
 
   -- the host ends at k: a colon stands there, or nothing
   module _ (p : k < length a → get_or a k 0 ≡ 58) where
-    end_by : host_end a ≡ cond (ltb 0 k && cond (ltb k (length a)) (is_port_number (drop (k + 1) a)) true) k 0
+    end_by : host_end a ≡ then_some (ltb 0 k && cond (ltb k (length a)) (is_port_number (drop (k + 1) a)) true) k
     end_by =
         let f = name_ends 58 refl g p in
-        let e : host_end a ≡ cond ((ltb 0 k && all is_name (part 0 k a)) && cond (ltb k (length a)) (is_port_number (drop (k + 1) a)) true) k 0 = rw (named_by 58 a f, f.is) in
-        e ∙ ap (λ t. cond ((ltb 0 k && t) && cond (ltb k (length a)) (is_port_number (drop (k + 1) a)) true) k 0) (sym (name_whole 58 refl g)) ∙ rw (and-true (ltb 0 k))
+        let e : host_end a ≡ then_some ((ltb 0 k && all is_name (part 0 k a)) && cond (ltb k (length a)) (is_port_number (drop (k + 1) a)) true) k = rw (named_by 58 a f, f.is) in
+        e ∙ ap (λ t. then_some ((ltb 0 k && t) && cond (ltb k (length a)) (is_port_number (drop (k + 1) a)) true) k) (sym (name_whole 58 refl g)) ∙ rw (and-true (ltb 0 k))
 
-  pub host_alone : k ≡ length a → k ≡ host_end a
-  host_alone z = or_none k ∙ sym (end_by (λ h. absurd (omega arith)) ∙ rw (le-ltb k (length a) (omega arith), and-true (ltb 0 k)))
+  -- a host has a byte
+  pub host_empty : k ≡ 0 → None ≡ host_end a
+  host_empty z =
+      by_cases (dec_lt k (length a))
+      (λ l. by_cases (ℕ_discrete (get_or a k 0) 58) (λ c. ended (λ _. c)) (λ n. host_not (λ e. omega arith) n))
+      (λ n. ended (λ h. absurd (n h)))
+    where
+      ended : (k < length a → get_or a k 0 ≡ 58) → None ≡ host_end a
+      ended p = sym (end_by p ∙ rw z)
 
-  module _ (z : k ≡ length a → ⊥) (c : get_or a k 0 ≡ 58) {v : Bool} (q : v ≡ is_port_number (part (k + 1) (length a) a)) where
-    end_port : host_end a ≡ cond (ltb 0 k && v) k 0
-    end_port =
+  module _ (s : k ≡ 0 → ⊥) where
+    pub host_alone : k ≡ length a → Some k ≡ host_end a
+    host_alone z = sym (end_by (λ h. absurd (omega arith)) ∙ rw (le-ltb k (length a) (omega arith), and-true (ltb 0 k), lt-ltb 0 k (omega arith)))
+
+    pub host_port : (k ≡ length a → ⊥) → get_or a k 0 ≡ 58 → {v : Bool} → v ≡ is_port_number (part (k + 1) (length a) a) → then_some v k ≡ host_end a
+    host_port z c {v} q =
         let w : k ≤ length a = g.within in
-        end_by (λ _. c) ∙ rw (q, part_rest (k + 1) (length a) a (omega arith), lt-ltb k (length a) (omega arith))
+        sym (end_by (λ _. c) ∙ rw (q, part_rest (k + 1) (length a) a (omega arith), lt-ltb k (length a) (omega arith), lt-ltb 0 k (omega arith)))
 
-    pub host_port : v ≡ true → k ≡ host_end a
-    host_port n = or_none k ∙ sym (end_port ∙ rw (n, and-true (ltb 0 k)))
-
-    pub port_not : v ≡ false → 0 ≡ host_end a
-    port_not n = sym (end_port ∙ rw (n, and-false (ltb 0 k)))
-
--- a host that ends past 0 is one
-host_is : (a : List ℕ) {h : ℕ} → h ≡ host_end a → (h ≡ 0 → ⊥) → (is_host a ≡ true) × (is_port a ≡ true) × (h ≡ port_colon a)
-host_is a {h} e n = go (is_host a) (is_port a) e
+-- a text whose host ends somewhere is one, and another is not
+host_is : (a : List ℕ) {h : ℕ} → Some h ≡ host_end a → (is_host a ≡ true) × (is_port a ≡ true) × (h ≡ port_colon a)
+host_is a {h} e = go (is_host a) (is_port a) e
   where
-    go : (x y : Bool) → h ≡ cond (x && y) (port_colon a) 0 → (x ≡ true) × (y ≡ true) × (h ≡ port_colon a)
-    go true true q = (refl, refl, q)
-    go true false q = absurd (n q)
-    go false y q = absurd (n q)
+    go : (x y : Bool) → Some h ≡ then_some (x && y) (port_colon a) → (x ≡ true) × (y ≡ true) × (h ≡ port_colon a)
+    go true true q = (refl, refl, cc)
+    go true false q = cc
+    go false y q = cc
 
-host_none : (a : List ℕ) {h : ℕ} → h ≡ host_end a → h ≡ 0 → is_host a && is_port a ≡ false
-host_none a {h} e z =
-    ap (λ t. t && is_port a) named
-    ∙ go (ltb 0 (port_colon a)) (all is_name (part 0 (port_colon a) a)) (is_port a) refl (ap (λ t. cond (t && is_port a) (port_colon a) 0) (sym named) ∙ sym e ∙ z)
+host_none : (a : List ℕ) → None ≡ host_end a → is_host a && is_port a ≡ false
+host_none a e = go (is_host a && is_port a) e
   where
-    named : is_host a ≡ ltb 0 (port_colon a) && all is_name (part 0 (port_colon a) a)
-    named = named_by 58 a (record { is = refl; within = first_within (is 58) a })
-
-    go : (w x y : Bool) → ltb 0 (port_colon a) ≡ w → cond ((w && x) && y) (port_colon a) 0 ≡ 0 → (w && x) && y ≡ false
-    go true true true l q = let m : 0 < port_colon a = ltb-true 0 (port_colon a) l in absurd (omega arith)
-    go true true false l q = refl
-    go true false y l q = refl
-    go false x y l q = refl
+    go : (x : Bool) → None ≡ then_some x (port_colon a) → x ≡ false
+    go true q = cc
+    go false q = refl
 
 -- THE PATH
 pub stream_none : (p : List ℕ) → length p ≡ 0 → Value 0 ≡ stream_of_path p
@@ -117,20 +110,6 @@ module _ (p : List ℕ) (n : length p ≡ 0 → ⊥) {t : Bool} (e : t ≡ start
   stream_is y {v} q = q ∙ rw (part_rest 7 (length p) p (omega arith)) (sym (stream_by p n e ∙ rw (not-false t y)))
 
 -- THE WHOLE
-other : {u : List ℕ} {r : Uri} → r ≡ no_uri → is_uri u ≡ false → UriIs u r
-other e n =
-    rw e
-    (record {
-      sound = sym n;
-      stream = λ t. never t refl;
-      host = λ t. never t refl;
-      starts = λ t. never t refl;
-      asked = λ t. never t refl;
-      query = λ t. never t refl;
-      place = λ t. never t refl;
-      broken = λ t. refl;
-    })
-
 -- a host with its port, and the digits of a number, hold no question mark
 unmarked_digits : (xs : List ℕ) → are_digits 10 xs ≡ true → all (in_class (Not 63)) xs ≡ true
 unmarked_digits [] e = refl
@@ -167,9 +146,9 @@ port_digits xs e = go (leb 1 (length xs)) (leb (length xs) 5) (are_digits 10 xs)
     go true false c d z = never z refl
     go false b c d z = never z refl
 
-unmarked : (a : List ℕ) {h : ℕ} → h ≡ host_end a → (h ≡ 0 → ⊥) → all (in_class (Not 63)) a ≡ true
-unmarked a {h} e n =
-    let i = host_is a e n in
+unmarked : (a : List ℕ) {h : ℕ} → Some h ≡ host_end a → all (in_class (Not 63)) a ≡ true
+unmarked a {h} e =
+    let i = host_is a e in
     let names : all is_name (take (port_colon a) a) ≡ true = rw (sub-zero (port_colon a)) at (and_both (ltb 0 (length (part 0 (port_colon a) a))) (all is_name (part 0 (port_colon a) a)) i.0).1 in
     unmarked_host a names (λ l. rw (← add-one (port_colon a)) (port_digits (drop (port_colon a + 1) a) (rw (lt-ltb (port_colon a) (length a) l) at i.1)))
 
@@ -208,15 +187,15 @@ module _ (u : List ℕ) where
   scheme_body : 7 ≤ question u → starts_with scheme (part 0 (question u) u) ≡ starts_with scheme u
   scheme_body h = ap (λ x. are_alike Counts x scheme) (part_part 0 7 0 (question u) u (omega arith))
 
-  pub scheme_not : {t : Bool} → t ≡ starts_with scheme u → {r : Uri} → r ≡ no_uri → not t ≡ true → UriIs u r
+  pub scheme_not : {t : Bool} → t ≡ starts_with scheme u → not t ≡ true → is_uri u ≡ false
   unfolding is_uri
-  scheme_not {t} s {r} e n = by (case (starts_with scheme (part 0 (question u) u)))
+  scheme_not {t} s n = by (case (starts_with scheme (part 0 (question u) u)))
     where
-      by : Case (starts_with scheme (part 0 (question u) u)) → UriIs u r
+      by : Case (starts_with scheme (part 0 (question u) u)) → is_uri u ≡ false
       by (holds y) =
           let l : 7 ≤ length (part 0 (question u) u) = starts_long scheme (part 0 (question u) u) (sym y) refl in
           never (sym (scheme_body (omega (arith, body_length))) ∙ y) (sym s ∙ not-true t n)
-      by (isnt z) = other e (rw z)
+      by (isnt z) = rw z
 
   -- up to the question mark it is a front part of what follows the scheme
   rest_whole : rest u ≡ drop 7 u
@@ -241,25 +220,25 @@ module _ (u : List ℕ) {t : Bool} (s : t ≡ starts_with scheme u) (y : not t �
         let l = length-take n (rest u) in
         (omega arith, rw (r, z) (take-take (k - 0) n (rest u) (omega arith)))
 
-    pub slash_not : {r : Uri} → r ≡ no_uri → k ≡ length (rest u) → UriIs u r
+    pub slash_not : k ≡ length (rest u) → is_uri u ≡ false
     unfolding is_uri
-    slash_not {r} e z = by (case (has 47 (rest_of u)))
+    slash_not z = by (case (has 47 (rest_of u)))
       where
-        by : Case (has 47 (rest_of u)) → UriIs u r
+        by : Case (has 47 (rest_of u)) → is_uri u ≡ false
         by (holds b) = let l = (same_front b).0 in absurd (omega arith)
-        by (isnt b) = other e (second_false (starts_with scheme (before 63 u)) (has 47 (rest_of u)) (is_host (before 47 (rest_of u)) && (is_port (before 47 (rest_of u)) && is_value (stream_named u))) b)
+        by (isnt b) = second_false (starts_with scheme (before 63 u)) (has 47 (rest_of u)) (is_host (before 47 (rest_of u)) && (is_port (before 47 (rest_of u)) && is_value (stream_named u))) b
 
-    module _ {h : ℕ} (e : h ≡ host_end (front k u)) where
-      pub no_host : {r : Uri} → r ≡ no_uri → h ≡ 0 → UriIs u r
-      unfolding is_uri
-      no_host {r} i z = by (case (has 47 (rest_of u)))
-        where
-          by : Case (has 47 (rest_of u)) → UriIs u r
-          by (holds b) = other i (third_false (starts_with scheme (before 63 u)) (has 47 (rest_of u)) (is_host (before 47 (rest_of u))) (is_port (before 47 (rest_of u))) (is_value (stream_named u)) (ap (λ x. is_host x && is_port x) (same_front b).1 ∙ host_none (front k u) e z))
-          by (isnt b) = other i (second_false (starts_with scheme (before 63 u)) (has 47 (rest_of u)) (is_host (before 47 (rest_of u)) && (is_port (before 47 (rest_of u)) && is_value (stream_named u))) b)
+    pub no_host : None ≡ host_end (front k u) → is_uri u ≡ false
+    unfolding is_uri
+    no_host e = by (case (has 47 (rest_of u)))
+      where
+        by : Case (has 47 (rest_of u)) → is_uri u ≡ false
+        by (holds b) = third_false (starts_with scheme (before 63 u)) (has 47 (rest_of u)) (is_host (before 47 (rest_of u))) (is_port (before 47 (rest_of u))) (is_value (stream_named u)) (ap (λ x. is_host x && is_port x) (same_front b).1 ∙ host_none (front k u) e)
+        by (isnt b) = second_false (starts_with scheme (before 63 u)) (has 47 (rest_of u)) (is_host (before 47 (rest_of u)) && (is_port (before 47 (rest_of u)) && is_value (stream_named u))) b
 
+    module _ {h : ℕ} (e : Some h ≡ host_end (front k u)) where
       -- there is a host: no question mark stands before the path, so the first one there ends it
-      module _ (l : k < length (rest u)) (n : h ≡ 0 → ⊥) {m : ℕ} (g : FirstOf (is 63) (path k u) m) where
+      module _ (l : k < length (rest u)) {m : ℕ} (g : FirstOf (is 63) (path k u) m) where
         path_rest : path k u ≡ drop (k + 1) (rest u)
         path_rest = part_rest (k + 1) (length (rest u)) (rest u) (omega arith)
 
@@ -288,7 +267,7 @@ module _ (u : List ℕ) {t : Bool} (s : t ≡ starts_with scheme u) (y : not t �
             let c : Seeking (is 63) u 7 = seeking_block (is 63) (in_class (Not 63)) (λ b. not-true _) (seeking_start (is 63) u) (omega arith) scheme_long begins refl in
             let r : front k u ≡ part 7 (7 + k) u = part_part 0 k 7 (length u) u (omega arith) in
             let d : Seeking (is 63) u (7 + k) =
-            seeking_block (is 63) (in_class (Not 63)) (λ b. not-true _) c (omega arith) (omega arith) (sym (ap (all (in_class (Not 63))) (sym r) ∙ unmarked (front k u) e n)) refl
+            seeking_block (is 63) (in_class (Not 63)) (λ b. not-true _) c (omega arith) (omega arith) (sym (ap (all (in_class (Not 63))) (sym r) ∙ unmarked (front k u) e)) refl
             in
             seeking_more (is 63) 0 d (omega arith) (sym (ap (is 63) slash_there)) refl
 
@@ -319,7 +298,7 @@ module _ (u : List ℕ) {t : Bool} (s : t ≡ starts_with scheme u) (y : not t �
 
         pub host_uri : Holds u (host_of u) 7 (7 + h)
         host_uri =
-            let b : h ≡ port_colon (front k u) = (host_is (front k u) e n).2 in
+            let b : h ≡ port_colon (front k u) = (host_is (front k u) e).2 in
             let x : port_colon (front k u) ≤ length (front k u) = first_within (is 58) (front k u) in
             let i : part 0 h (front k u) ≡ host_of u = ap (λ j. part 0 j (front k u)) b ∙ sym (ap (before 58) (same_front has_slash).1) in
             let c : Holds (front k u) (host_of u) 0 h = record { order = omega arith; within = omega arith; is = i } in
@@ -333,13 +312,13 @@ module _ (u : List ℕ) {t : Bool} (s : t ≡ starts_with scheme u) (y : not t �
           by_stream : is_uri u ≡ is_value v
           unfolding is_uri
           by_stream =
-              let b = host_is (front k u) e n in
+              let b = host_is (front k u) e in
               let q : 7 ≤ question u = omega (arith, marked) in
               all_true (starts_with scheme (before 63 u)) (has 47 (rest_of u)) (is_host (before 47 (rest_of u))) (is_port (before 47 (rest_of u))) (is_value (stream_named u)) (scheme_body u q ∙ sym s ∙ not-false t y) has_slash (ap is_host (same_front has_slash).1 ∙ b.0) (ap is_port (same_front has_slash).1 ∙ b.1)
               ∙ ap is_value (sym stream_named_law)
 
-          pub no_stream_law : {r : Uri} → r ≡ no_uri → v ≡ Nothing → UriIs u r
-          no_stream_law i z = other i (by_stream ∙ ap is_value z)
+          pub no_stream_law : v ≡ Nothing → is_uri u ≡ false
+          no_stream_law z = by_stream ∙ ap is_value z
 
           asked_is : ltb m (length (path k u)) ≡ has_query u
           asked_is =
@@ -349,20 +328,27 @@ module _ (u : List ℕ) {t : Bool} (s : t ≡ starts_with scheme u) (y : not t �
               by_cases (dec_lt m (length (path k u))) (λ a. lt-ltb m (length (path k u)) a ∙ sym (lt-ltb (question u) (length u) (omega arith)))
               (λ a. le-ltb m (length (path k u)) (omega arith) ∙ sym (le-ltb (question u) (length u) (omega arith)))
 
-          pub uri_is : {j : ℕ} → v ≡ Value j
-              → UriIs u (record { sound = true; asked = ltb m (length (path k u)); query = 7 + (k + 1) + m + 1; stream = j; host = record { start = 7; end = 7 + h } })
-          uri_is {j} z =
+          -- where the query stands, if there is one
+          query_held : has_query u ≡ true → Holds u (query_of u) (7 + (k + 1) + m + 1) (length u)
+          query_held b =
               record {
-                sound = sym (by_stream ∙ ap is_value z);
-                stream = λ _. sym z ∙ stream_named_law;
-                host = λ _. host_uri;
-                starts = λ _. refl;
-                asked = λ _. asked_is;
-                place = λ _. ap (λ i. i + 1) (sym marked);
-                query = λ _ b. record {
-                  order = omega (arith, marked, ltb-true (question u) (length u) (sym asked_is ∙ b));
-                  within = omega arith;
-                  is = part_rest (7 + (k + 1) + m + 1) (length u) u (omega arith) ∙ ap (λ i. drop (i + 1) u) (sym marked);
-                };
-                broken = λ i. never refl i;
+                order = omega (arith, marked, ltb-true (question u) (length u) b);
+                within = omega arith;
+                is = part_rest (7 + (k + 1) + m + 1) (length u) u (omega arith) ∙ ap (λ i. drop (i + 1) u) (sym marked);
+              }
+
+          query_there : (t : Bool) → t ≡ has_query u → IfSome (then_some t (7 + (k + 1) + m + 1)) (λ start. Holds u (query_of u) start (length u))
+          query_there true b = query_held (sym b)
+          query_there false b = tt
+
+          pub uri_is : {j : ℕ} {r : Option ℕ} → v ≡ Value j → r ≡ then_some (ltb m (length (path k u))) (7 + (k + 1) + m + 1)
+              → UriIs u (record { query = r; stream = j; host = record { start = 7; end = 7 + h } })
+          uri_is {j} z d =
+              record {
+                form = by_stream ∙ ap is_value z;
+                stream = sym z ∙ stream_named_law;
+                host = host_uri;
+                starts = refl;
+                place = d ∙ ap₂ (λ t i. then_some t (i + 1)) asked_is (sym marked);
+                query = rw d (query_there (ltb m (length (path k u))) asked_is);
               }

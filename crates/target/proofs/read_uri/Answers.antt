@@ -5,24 +5,25 @@ use Rattle.target.proofs.read_uri.Goals as goal
 use Rattle.std.proofs.Common.{ap, not}
 
 pub returns-then-not-starts_with : goal.returns-then-not-starts_with
-returns-then-not-starts_with c = scheme_not _ c.starts_with.ensures c.no_uri.ensures (ap not c.if-not-starts_with.true)
+returns-then-not-starts_with c = scheme_not _ c.starts_with.ensures (ap not c.if-not-starts_with.true)
 
 pub returns-then-slash-rest : goal.returns-then-slash-rest
-returns-then-slash-rest c = slash_not _ c.starts_with.ensures (ap not c.if-not-starts_with.false) c.first_in-slash.ensures c.no_uri-then-slash-rest.ensures c.if-slash-rest.true
+returns-then-slash-rest c = slash_not _ c.starts_with.ensures (ap not c.if-not-starts_with.false) c.first_in-slash.ensures c.if-slash-rest.true
 
-pub returns-then-host-eq0 : goal.returns-then-host-eq0
-returns-then-host-eq0 c = no_host _ c.starts_with.ensures (ap not c.if-not-starts_with.false) c.first_in-slash.ensures c.host_end-host.ensures c.no_uri-then-host-eq0.ensures c.if-host-eq0.true
+pub returns-in_err-host : goal.returns-in_err-host
+returns-in_err-host c = rw c.from_residual.ensures
+    (no_host _ c.starts_with.ensures (ap not c.if-not-starts_with.false) c.first_in-slash.ensures c.in_err-host.ensures)
 
-pub overflow_add-result-in-Value-3 : goal.overflow_add-result-in-Value-3
-overflow_add-result-in-Value-3 c = omega (
+pub returns-in_default : goal.returns-in_default
+returns-in_default c = no_stream_law _ c.starts_with.ensures (ap not c.if-not-starts_with.false) c.first_in-slash.ensures c.in_ok-host.ensures (search rules) c.first_in-mark.ensures
+    c.stream_in.ensures c.in_default.is
+
+pub overflow_add-result : goal.overflow_add-result
+overflow_add-result c = omega (
   arith,
-  (host_uri c.args.s.now c.starts_with.ensures (ap not c.if-not-starts_with.false) c.first_in-slash.ensures c.host_end-host.ensures (search rules) c.if-host-eq0.false c.first_in-mark.ensures).within,
+  (host_uri c.args.s.now c.starts_with.ensures (ap not c.if-not-starts_with.false) c.first_in-slash.ensures c.in_ok-host.ensures (search rules) c.first_in-mark.ensures).within,
 )
 
-pub returns-in-Value : goal.returns-in-Value
-returns-in-Value c = uri_is _ c.starts_with.ensures (ap not c.if-not-starts_with.false) c.first_in-slash.ensures c.host_end-host.ensures (search rules) c.if-host-eq0.false c.first_in-mark.ensures
-    c.stream_in-stream.ensures c.in-Value.is
-
-pub returns-in-Nothing : goal.returns-in-Nothing
-returns-in-Nothing c = no_stream_law _ c.starts_with.ensures (ap not c.if-not-starts_with.false) c.first_in-slash.ensures c.host_end-host.ensures (search rules) c.if-host-eq0.false c.first_in-mark.ensures
-    c.stream_in-stream.ensures c.no_uri-in-Nothing.ensures c.in-Nothing.is
+pub returns : goal.returns
+returns c = uri_is _ c.starts_with.ensures (ap not c.if-not-starts_with.false) c.first_in-slash.ensures c.in_ok-host.ensures (search rules) c.first_in-mark.ensures
+    c.stream_in.ensures c.in-Value.is c.then_some.ensures

@@ -11,13 +11,13 @@ pub returns-then-line-first : goal.returns-then-line-first
 returns-then-line-first c = search (one_part, rules)
 
 pub returns-then-line-second : goal.returns-then-line-second
-returns-then-line-second c = two_parts c.first_from-first.ensures c.if-line-first.false ((let fact : FirstFrom (is 32) c.args.line.now (c.first_from-first.result + 1) (c.first_from-first.result + 1 + c.first_far.result) = first_rest _ _ _ (omega arith) c.first_far.ensures in fact)) c.no_parts-then-line-second.ensures c.if-line-second.true
+returns-then-line-second c = two_parts c.first_from-first.ensures c.if-line-first.false ((let fact : FirstFrom (is 32) c.args.line.now (c.first_from-first.result + 1) (c.first_from-first.result + 1 + c.first_far.result) = first_rest _ _ _ (omega arith) c.first_far.ensures in fact)) c.if-line-second.true
 
 pub returns-then-first_from-line : goal.returns-then-first_from-line
-returns-then-first_from-line c = more_parts c.first_from-first.ensures c.if-line-first.false ((let fact : FirstFrom (is 32) c.args.line.now (c.first_from-first.result + 1) (c.first_from-first.result + 1 + c.first_far.result) = first_rest _ _ _ (omega arith) c.first_far.ensures in fact)) c.if-line-second.false c.first_from.ensures c.no_parts-then-first_from-line.ensures c.if-first_from-line.true
+returns-then-first_from-line c = more_parts c.first_from-first.ensures c.if-line-first.false ((let fact : FirstFrom (is 32) c.args.line.now (c.first_from-first.result + 1) (c.first_from-first.result + 1 + c.first_far.result) = first_rest _ _ _ (omega arith) c.first_far.ensures in fact)) c.if-line-second.false c.first_from.ensures c.if-first_from-line.true
 
 pub returns-then-first-second : goal.returns-then-first-second
-returns-then-first-second c = empty_parts c.first_from-first.ensures c.if-line-first.false ((let fact : FirstFrom (is 32) c.args.line.now (c.first_from-first.result + 1) (c.first_from-first.result + 1 + c.first_far.result) = first_rest _ _ _ (omega arith) c.first_far.ensures in fact)) c.if-line-second.false c.first_from.ensures c.if-first_from-line.false c.no_parts-then-first-second.ensures
+returns-then-first-second c = empty_parts c.first_from-first.ensures c.if-line-first.false ((let fact : FirstFrom (is 32) c.args.line.now (c.first_from-first.result + 1) (c.first_from-first.result + 1 + c.first_far.result) = first_rest _ _ _ (omega arith) c.first_far.ensures in fact)) c.if-line-second.false c.first_from.ensures c.if-first_from-line.false
     c.if-first-second.true
 
 pub returns : goal.returns
