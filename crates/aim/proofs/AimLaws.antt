@@ -12,13 +12,16 @@ use Rattle.scan.specs.Lists.{all, part, first, ◌gives◌or◌}
 use Rattle.scan.specs.Text.{is, cut}
 use Rattle.scan.specs.Found.{Holds, nowhere}
 use Rattle.scan.specs.declared.Span.{Span}
-use Rattle.scan.proofs.Bools.{never, by_cases}
+use Rattle.scan.proofs.Bools.{by_cases}
 use Rattle.scan.proofs.Parts.{all_same, holds_nothing, holds_length}
 use Rattle.target.specs.Uri.{is_uri, has_query, query_of}
-use Rattle.target.specs.Steps.{UriIs}
 use Rattle.target.specs.declared.Uri.{Uri}
 use Rattle.aim.specs.Query.{are_parts, text_in, code_from, code_in}
-use Rattle.aim.specs.Found.{is_within, text_of, QueryIs, Reached, refused_aim, verdict_of, is_span, AimIs, judged, takes_no_query, lacks_stream}
+use Rattle.aim.specs.Found.{is_within, is_query, text_of, QueryIs, Reached, Refuses, unasked, verdict_of, is_span, AimIs, judged, takes_no_query, lacks_stream}
+use Rattle.std.specs.Prelude.{Option, Some, None, Result, Ok, Err, MatchResult}
+use Rattle.std.specs.Option.{is_some, MatchOption, ok_or}
+use Rattle.std.specs.Bool.{then_some}
+use Rattle.target.specs.Steps.{question}
 use Rattle.refusals.specs.Refusals.{is_read}
 use Rattle.aim.specs.Aim.{has_stream, uri_refusal}
 use Rattle.refusals.specs.declared.Refusal.{Refusal}
@@ -28,42 +31,37 @@ use Rattle.aim.specs.declared.Aim.{Aim}
 use Rattle.aim.specs.declared.query.Query.{Query}
 use Rattle.tuning.proofs.Words.{value_none}
 
--- a refused URI
-pub aim_refused : {frontends : ℕ} {method : Method} {u : List ℕ} {r : Aim} {x : Refusal} → is_read x ≡ false → x ≡ uri_refusal frontends method u → r ≡ refused_aim x → AimIs frontends method u r
-aim_refused {x = x} n e q =
-    let no-pass : x ≡ Passed → ⊥ = λ y. let z : true ≡ false = ap is_read (sym y) ∙ n in let w : ◌≡◌ {A = ℕ} 0 1 = cc in omega arith in
-    rw q
-    (record {
-      refusal = e;
-      stream = λ y. absurd (no-pass y);
-      host = λ y. absurd (no-pass y);
-      query = λ y. absurd (no-pass y);
-      codes = λ y. absurd (no-pass y);
-      spans = λ y. absurd (no-pass y);
-      host_starts = λ y. absurd (no-pass y);
-      query_starts = λ y. absurd (no-pass y);
-      starts = λ y. absurd (no-pass y);
-      refused = λ _. refl;
-    })
+-- what is handed on where nothing was read, and what was read
+pub none_refused : {A : Type 0} (P : Type 0) (Q : A → Type 0) {o : Option A} {x e y : Refusal} → MatchOption o P Q → o ≡ None → Err e ≡ ok_or o x → y ≡ e → P × (y ≡ x)
+none_refused {A} P Q {x = x} {e} h z v u =
+    let w : ◌≡◌ {A = Result A Refusal} (Err e) (Err x) = v ∙ ap (λ p. ok_or p x) z in
+    (rw z at h, cc)
 
-pub uri_long : (frontends : ℕ) (method : Method) (u : List ℕ) → 1024 < length u → UriLong ≡ uri_refusal frontends method u
-unfolding uri_refusal
-uri_long frontends method u h = rw (lt-ltb 1024 (length u) h)
+pub some_read : {A : Type 0} (P : Type 0) (Q : A → Type 0) {o : Option A} {v : A} → MatchOption o P Q → o ≡ Some v → Q v
+some_read P Q h z = rw z at h
 
-pub uri_form : (frontends : ℕ) (method : Method) (u : List ℕ) {t : Uri} → length u ≤ 1024 → UriIs u t → t.sound ≡ false → UriForm ≡ uri_refusal frontends method u
+pub uri_long : (frontends : ℕ) (method : Method) (u : List ℕ) → 1024 < length u → Refuses frontends method u UriLong
 unfolding uri_refusal
-uri_form frontends method u h i n = rw (le-ltb 1024 (length u) h, sym i.sound ∙ n)
+uri_long frontends method u h = (rw (lt-ltb 1024 (length u) h), refl)
+
+pub uri_form : (frontends : ℕ) (method : Method) (u : List ℕ) → length u ≤ 1024 → is_uri u ≡ false → Refuses frontends method u UriForm
+unfolding uri_refusal
+uri_form frontends method u h n = (rw (le-ltb 1024 (length u) h, n), refl)
 
 -- the stream that a sound URI names
-module _ (frontends : ℕ) (method : Method) (u : List ℕ) {t : Uri} {b : Bool} (r : Reached u t b) where
-  sound : is_uri u ≡ true
-  sound = sym r.is.sound ∙ r.sound
+module _ (frontends : ℕ) (method : Method) (u : List ℕ) {t : Uri} {start : Option ℕ} (r : Reached u t start) where
+  abbrev b : Bool
+  b = is_some start
 
   asks : has_query u ≡ b
-  asks = sym (r.is.asked r.sound) ∙ r.query
+  asks = by (has_query u) (sym r.query ∙ r.is.place)
+    where
+      by : (x : Bool) → start ≡ then_some x (question u + 1) → x ≡ is_some start
+      by true e = rw e
+      by false e = rw e
 
   pub stream_named_law : {s : Bool} → s ≡ not (eqb t.stream 0) → s ≡ has_stream u
-  stream_named_law e = e ∙ ap (λ x. not (eqb (code_from x) 0)) (r.is.stream r.sound)
+  stream_named_law e = e ∙ ap (λ x. not (eqb (code_from x) 0)) r.is.stream
 
   abbrev ps : List (List ℕ)
   ps = cond b (cut 38 (query_of u)) []
@@ -79,36 +77,35 @@ module _ (frontends : ℕ) (method : Method) (u : List ℕ) {t : Uri} {b : Bool}
       (not (all (is_within frontends) ps))
       (lacks_stream method (has_stream u) b)
   unfolding uri_refusal
-  chain = rw (le-ltb 1024 (length u) r.short, sound, asks)
+  chain = rw (le-ltb 1024 (length u) r.short, r.is.form, asks)
 
 -- A URI WITHOUT A QUERY
 pub unqueried : (u : List ℕ) → has_query u ≡ false → query_of u ≡ []
 unqueried u e = drop_of_length-le u {i = first (is 63) u + 1} (omega (arith, ltb-false (first (is 63) u) (length u) e))
 
-module _ (frontends : ℕ) (method : Method) (u : List ℕ) {t : Uri} (r : Reached u t false) {l s : Bool} (e : s ≡ not (eqb t.stream 0)) (q : l ≡ lacks_stream method s false) where
-  lacks_is : l ≡ lacks_stream method (has_stream u) false
-  lacks_is = q ∙ ap (λ x. lacks_stream method x false) (stream_named_law frontends method u r e)
-
-  pub unasked_lacks : l ≡ true → NoStream ≡ uri_refusal frontends method u
-  unfolding text_in
-  unasked_lacks y = sym (chain frontends method u r ∙ rw (sym lacks_is ∙ y))
-
-  pub unasked_passed : l ≡ false
-      → AimIs frontends method u (record { codes = replicate 13 0; spans = replicate 13 nowhere; refusal = Passed; stream = t.stream; host = t.host; query = nowhere })
+module _ (frontends : ℕ) (method : Method) (u : List ℕ) {t : Uri} (r : Reached u t None) where
+  unasked_by : (l : Bool) → lacks_stream method (not (eqb t.stream 0)) false ≡ l
+      → MatchResult (cond l (Err NoStream) (Ok (record { codes = replicate 13 0; spans = replicate 13 nowhere; stream = t.stream; host = t.host; query = nowhere }))) (AimIs frontends method u) (Refuses frontends method u)
   unfolding text_in code_in
-  unasked_passed n =
+  unasked_by true y = (sym (chain frontends method u r ∙ rw (lacks y)), refl)
+    where
+      lacks : lacks_stream method (not (eqb t.stream 0)) false ≡ true → lacks_stream method (has_stream u) false ≡ true
+      lacks e = ap (λ x. lacks_stream method x false) (sym (stream_named_law frontends method u r refl)) ∙ e
+  unasked_by false n =
       record {
-        refusal = sym (chain frontends method u r ∙ rw (sym lacks_is ∙ n));
-        stream = λ _. r.is.stream r.sound;
-        host = λ _. r.is.host r.sound;
-        query = λ _. rw (unqueried u (asks frontends method u r)) (holds_nothing u);
-        codes = λ _ a. rw (asks frontends method u r, all_same {A = ℕ} 13 a 0, value_none frontends a);
-        spans = λ _ a. rw (unqueried u (asks frontends method u r), asks frontends method u r, all_same 13 a nowhere) (holds_nothing []);
-        host_starts = λ _. r.is.starts r.sound;
-        query_starts = λ _. rw (asks frontends method u r);
-        starts = λ _ a. rw (asks frontends method u r, all_same 13 a nowhere);
-        refused = λ x. never refl x;
+        passes = chain frontends method u r ∙ rw (ap (λ x. lacks_stream method x false) (sym (stream_named_law frontends method u r refl)) ∙ n);
+        stream = r.is.stream;
+        host = r.is.host;
+        query = rw (unqueried u (asks frontends method u r)) (holds_nothing u);
+        codes = λ a. rw (asks frontends method u r, all_same {A = ℕ} 13 a 0, value_none frontends a);
+        spans = λ a. rw (unqueried u (asks frontends method u r), asks frontends method u r, all_same 13 a nowhere) (holds_nothing []);
+        host_starts = r.is.starts;
+        query_starts = rw (asks frontends method u r);
+        starts = λ a. rw (asks frontends method u r, all_same 13 a nowhere);
       }
+
+  pub unasked_law : {x : Result Aim Refusal} → x ≡ unasked method t → MatchResult x (AimIs frontends method u) (Refuses frontends method u)
+  unasked_law e = rw e (unasked_by (lacks_stream method (not (eqb t.stream 0)) false) refl)
 
 -- A URI WITH ONE
 -- a span holds something exactly if its text is not empty
@@ -119,41 +116,49 @@ span_given {q} {x} s h =
     (λ z. rw (le-ltb s.start s.end (omega arith), le-ltb 0 (length x) (omega arith)))
     (λ z. rw (lt-ltb s.start s.end (omega arith), lt-ltb 0 (length x) (omega arith)))
 
-pub query_held : (u : List ℕ) {t : Uri} → Reached u t true → Holds u (query_of u) t.query (length u)
-query_held u r = r.is.query r.sound r.query
+module _ (frontends : ℕ) (method : Method) (u : List ℕ) {t : Uri} {start : ℕ} (r : Reached u t (Some start)) where
+  query_held : Holds u (query_of u) start (length u)
+  query_held = rw r.query at r.is.query
 
-module _ (frontends : ℕ) (method : Method) (u : List ℕ) {t : Uri} (r : Reached u t true) where
-  pub asked_untaken : {x : Bool} → x ≡ takes_no_query method → x ≡ true → QueryUntaken ≡ uri_refusal frontends method u
-  asked_untaken e y = sym (chain frontends method u r ∙ rw (sym e ∙ y))
+  pub query_inside : start ≤ length u
+  query_inside = query_held.order
 
-  module _ {x : Bool} (e : x ≡ takes_no_query method) (n : x ≡ false) {q : Query} (i : QueryIs frontends (part t.query (length u) u) q) where
-    own : QueryIs frontends (query_of u) q
-    own = rw (query_held u r).is at i
+  pub asked_untaken : {x : Bool} → x ≡ takes_no_query method → x ≡ true → Refuses frontends method u QueryUntaken
+  asked_untaken e y = (sym (chain frontends method u r ∙ rw (sym e ∙ y)), refl)
 
-    pub asked_broken : q.sound ≡ false → QueryForm ≡ uri_refusal frontends method u
-    asked_broken z = sym (chain frontends method u r ∙ rw (sym e ∙ n, sym own.sound ∙ z))
+  module _ {x : Bool} (e : x ≡ takes_no_query method) (n : x ≡ false) where
+    pub asked_broken : is_query (part start (length u) u) ≡ false → Refuses frontends method u QueryForm
+    asked_broken z = (sym (chain frontends method u r ∙ rw (sym e ∙ n, ap is_query (sym query_held.is) ∙ z)), refl)
 
-    module _ (y : q.sound ≡ true) {s : Bool} (g : s ≡ not (eqb t.stream 0)) {v : Refusal} (d : v ≡ verdict_of method s q) where
+    module _ {q : Query} (i : QueryIs frontends (part start (length u) u) q) {s : Bool} (g : s ≡ not (eqb t.stream 0)) where
+      own : QueryIs frontends (query_of u) q
+      own = rw query_held.is at i
+
       given : (a : ℕ) → is_span (get_or q.spans a nowhere) ≡ ltb 0 (length (text_of a (query_of u)))
-      given a = span_given (get_or q.spans a nowhere) (own.spans y a)
+      given a = span_given (get_or q.spans a nowhere) (own.spans a)
 
-      pub asked_verdict : v ≡ uri_refusal frontends method u
-      asked_verdict =
-          d ∙ rw (given 10, given 11, given 12, own.within y, stream_named_law frontends method u r g)
-          (sym (chain frontends method u r ∙ rw (sym e ∙ n, sym own.sound ∙ y)))
+      verdict_is : verdict_of method s q ≡ uri_refusal frontends method u
+      verdict_is =
+          rw (given 10, given 11, given 12, own.within, stream_named_law frontends method u r g)
+          (sym (chain frontends method u r ∙ rw (sym e ∙ n, own.form)))
 
-      pub asked_passed : is_read v ≡ true
-          → AimIs frontends method u (record { codes = q.codes; spans = q.spans; refusal = v; stream = t.stream; host = t.host; query = record { start = t.query; end = length u } })
+      pub asked_refused : {v : Refusal} → (v ≡ verdict_of method s q) × (is_read v ≡ false) → Refuses frontends method u v
+      asked_refused d = (d.0 ∙ verdict_is, d.1)
+
+      pub asked_passed : verdict_of method s q ≡ Passed
+          → AimIs frontends method u (record { codes = q.codes; spans = q.spans; stream = t.stream; host = t.host; query = record { start = start; end = length u } })
       asked_passed p =
           record {
-            refusal = asked_verdict;
-            stream = λ _. r.is.stream r.sound;
-            host = λ _. r.is.host r.sound;
-            query = λ _. query_held u r;
-            codes = λ _ a. rw (asks frontends method u r) (own.codes y a);
-            spans = λ _ a. rw (asks frontends method u r) (own.spans y a);
-            host_starts = λ _. r.is.starts r.sound;
-            query_starts = λ _. rw (asks frontends method u r) (r.is.place r.sound);
-            starts = λ _ a. rw (asks frontends method u r) (own.starts y a);
-            refused = λ z. never p z;
+            passes = sym verdict_is ∙ p;
+            stream = r.is.stream;
+            host = r.is.host;
+            query = query_held;
+            codes = λ a. rw (asks frontends method u r) (own.codes a);
+            spans = λ a. rw (asks frontends method u r) (own.spans a);
+            host_starts = r.is.starts;
+            query_starts = rw (asks frontends method u r) place;
+            starts = λ a. rw (asks frontends method u r) (own.starts a);
           }
+        where
+          place : start ≡ question u + 1
+          place = let z : Some start ≡ then_some (has_query u) (question u + 1) = sym r.query ∙ r.is.place in let y : Some start ≡ Some (question u + 1) = z ∙ rw (asks frontends method u r) in cc

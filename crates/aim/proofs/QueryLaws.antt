@@ -8,7 +8,7 @@ use native.Mathlib.Omega.{arith}
 use lib.Dec.{ltb, eqb}
 use lib.ListN.{length, drop, get_or, set, replicate, length-set, length-drop, drop_of_length-le}
 use lib.Seq.{get_or-set_same, get_or-set_other}
-use borrow.Author.Tests.{ltb-true, lt-ltb, le-ltb, eq-eqb, ne_eqb}
+use borrow.Author.Tests.{ltb-true, lt-ltb, eq-eqb, ne_eqb}
 use Rattle.scan.specs.Lists.{all, part, first}
 use Rattle.scan.specs.Found.{Holds, nowhere, FirstOf, FirstFrom, cut_from}
 use Rattle.scan.specs.Text.{is, cut}
@@ -20,21 +20,29 @@ use Rattle.digits.specs.Reading.{is_value}
 use Rattle.digits.specs.declared.Read.{Read}
 use Rattle.tuning.specs.Values.{attribute_of, value_of}
 use Rattle.aim.specs.Query.{attribute_in, are_parts, code_from, text_in, code_in}
-use Rattle.aim.specs.Found.{is_query, are_within, code_of, text_of, code_among, text_among, is_part, equals, part_value, is_named_before, is_within, start_among, start_of, PartIs, broken_query, QueryIs}
+use Rattle.aim.specs.Found.{is_query, are_within, code_of, text_of, code_among, text_among, is_part, equals, part_value, is_named_before, is_within, start_among, start_of, PartHas, PartIs, QueryIs}
+use Rattle.std.specs.Bool.{then_some}
+use Rattle.scan.proofs.Options.{by_some}
 use Rattle.aim.specs.declared.query.Part.{Part}
-use Rattle.aim.specs.declared.query.Query.{Query}
 use Rattle.tuning.proofs.Words.{value_none}
 
--- one part of a query
-pub part_whole : (p : List ℕ) {k a : ℕ} → FirstOf (is 61) p k → k + 1 < length p → a ≡ attribute_of (part 0 k p) → PartIs p (record { attribute = a; value = k + 1 })
+-- one part of a query: its attribute is the one that stands before its `=`
+part_attribute : (p : List ℕ) {k : ℕ} → FirstOf (is 61) p k → k + 1 < length p → attribute_in p ≡ attribute_of (part 0 k p)
 unfolding attribute_in
-part_whole p {k} f h e =
+part_attribute p {k} f h =
     let n : length (drop (k + 1) p) ≡ length p - (k + 1) = length-drop (k + 1) p in
-    record { attribute = rw (← f.is, some_text (drop (k + 1) p) (omega arith)) e; value = ap (λ j. j + 1) f.is }
+    rw (← f.is, some_text (drop (k + 1) p) (omega arith))
 
-pub part_broken : (p : List ℕ) {k : ℕ} → FirstOf (is 61) p k → length p ≤ k + 1 → PartIs p (record { attribute = 13; value = k + 1 })
+pub part_whole : (p : List ℕ) {k a : ℕ} → FirstOf (is 61) p k → k + 1 < length p → a ≡ attribute_of (part 0 k p) → PartIs p (then_some (ltb a 13) (record { attribute = a; value = k + 1 }))
+part_whole p {k} {a} f h e =
+    let d : a ≡ attribute_in p = e ∙ sym (part_attribute p f h) in
+    by_some (ltb (attribute_in p) 13 ≡ false) (PartHas p) (ltb a 13) (record { attribute = a; value = k + 1 })
+    (λ y. record { attribute = d; known = rw (← d) y; value = ap (λ j. j + 1) f.is })
+    (λ n. rw (← d) n)
+
+pub part_broken : (p : List ℕ) {k : ℕ} → FirstOf (is 61) p k → length p ≤ k + 1 → ltb (attribute_in p) 13 ≡ false
 unfolding attribute_in
-part_broken p {k} f h = record { attribute = rw (← f.is, drop_of_length-le p {i = k + 1} h); value = ap (λ j. j + 1) f.is }
+part_broken p {k} f h = rw (← f.is, drop_of_length-le p {i = k + 1} h)
 
 -- an attribute below 13 is named by a part with a value
 is_part_law : (p : List ℕ) → attribute_in p < 13 → is_part p ≡ true
@@ -52,10 +60,9 @@ untaken a [] = refl
 untaken a (b ∷ bs) = by_test (λ t. not t && all (λ c. not (eqb a c)) bs ≡ not (t || is_named_before a bs)) (eqb a b) (λ _. refl) (λ _. untaken a bs)
 
 -- and its value stands behind the `=`
-pub value_inside : (q : List ℕ) (p e : ℕ) {r : Part} → e ≤ length q → PartIs (part p e q) r → r.attribute ≤ 12 → p + r.value < e
-value_inside q p e {r} k i h =
-    let a : r.attribute ≡ attribute_in (part p e q) = i.attribute in
-    let t : is_part (part p e q) ≡ true = is_part_law (part p e q) (omega arith) in
+pub value_inside : (q : List ℕ) (p e : ℕ) {r : Part} → e ≤ length q → PartHas (part p e q) r → p + r.value < e
+value_inside q p e {r} k i =
+    let t : is_part (part p e q) ≡ true = is_part_law (part p e q) (ltb-true (attribute_in (part p e q)) 13 i.known) in
     let l : equals (part p e q) + 1 < length (part p e q) = ltb-true (equals (part p e q) + 1) (length (part p e q)) t in
     let n : length (part p e q) ≡ e - p = part_length p e q k in
     let v : r.value ≡ equals (part p e q) + 1 = i.value in
@@ -122,31 +129,17 @@ asking_start frontends q =
       held = λ a. rw (all_same 13 a nowhere) (record { there = λ y. never y refl; later = λ _. (text_among_law a (cut 38 q) ∙ ap (text_among a) (cut_start 38 q), holds_nothing q) });
     }
 
-pub query_broken : {frontends : ℕ} {q : List ℕ} {r : Query} → is_query q ≡ false → r ≡ broken_query → QueryIs frontends q r
-query_broken n e =
-    rw e
-    (record {
-      sound = sym n;
-      within = λ y. never y refl;
-      codes = λ y. never y refl;
-      spans = λ y. never y refl;
-      starts = λ y. never y refl;
-      thirteen = (refl, refl);
-      broken = λ _. refl;
-    })
-
 pub asking_end : {frontends : ℕ} {q : List ℕ} {p : ℕ} {codes : List ℕ} {spans : List Span} {w : Bool} → Asking frontends q p codes spans w → length q < p
-    → QueryIs frontends q (record { codes = codes; spans = spans; sound = true; within = w })
+    → QueryIs frontends q (record { codes = codes; spans = spans; within = w })
 asking_end {frontends} {q} {p} {codes} {spans} {w} k h =
     let none : cut_from 38 p q ≡ [] = cut_end 38 p q h in
     record {
-      sound = sym (ap (are_parts k.taken) none) ∙ k.form;
-      within = λ _. sym (ap (λ l. w && all (is_within frontends) l) none ∙ and_true w) ∙ k.values;
-      codes = λ _ a. sym (k.coded a ∙ ap (λ l. cond (is_named_before a k.taken) (get_or codes a 0) (code_among frontends a l)) none ∙ coded a);
-      spans = λ _ a. spanned a (k.held a);
-      starts = λ _ a. sym (k.begins a ∙ ap (λ l. cond (is_named_before a k.taken) (get_or spans a nowhere).start (start_among a p l)) none ∙ begun a);
+      form = sym k.form ∙ ap (are_parts k.taken) none;
+      within = sym (ap (λ l. w && all (is_within frontends) l) none ∙ and_true w) ∙ k.values;
+      codes = λ a. sym (k.coded a ∙ ap (λ l. cond (is_named_before a k.taken) (get_or codes a 0) (code_among frontends a l)) none ∙ coded a);
+      spans = λ a. spanned a (k.held a);
+      starts = λ a. sym (k.begins a ∙ ap (λ l. cond (is_named_before a k.taken) (get_or spans a nowhere).start (start_among a p l)) none ∙ begun a);
       thirteen = (k.long, k.wide);
-      broken = λ n. never refl n;
     }
   where
     and_true : (t : Bool) → t && true ≡ t
@@ -163,135 +156,144 @@ asking_end {frontends} {q} {p} {codes} {spans} {w} k h =
     spanned : (a : ℕ) → Spanned q (text_of a q) (text_among a (cut_from 38 p q)) (is_named_before a k.taken) (get_or spans a nowhere) → Holds q (text_of a q) (get_or spans a nowhere).start (get_or spans a nowhere).end
     spanned a s = by_test (λ t. is_named_before a k.taken ≡ t → Holds q (text_of a q) (get_or spans a nowhere).start (get_or spans a nowhere).end) (is_named_before a k.taken) (λ _ y. s.there y) (λ _ n. rw ((s.later n).0 ∙ ap (text_among a) (cut_end 38 p q h)) (s.later n).1) refl
 
-module _ {frontends : ℕ} {q : List ℕ} {p e : ℕ} {codes : List ℕ} {spans : List Span} {w : Bool} {r : Part} (k : Asking frontends q p codes spans w) (h : p ≤ length q) (f : FirstFrom (is 38) q p e) (i : PartIs (part p e q) r) where
+module _ {frontends : ℕ} {q : List ℕ} {p e : ℕ} {codes : List ℕ} {spans : List Span} {w : Bool} (k : Asking frontends q p codes spans w) (h : p ≤ length q) (f : FirstFrom (is 38) q p e) where
   turned : cut_from 38 p q ≡ part p e q ∷ cut_from 38 (e + 1) q
   turned = cut_turn 38 p q h f.is
 
-  form_turned : is_query q ≡ ltb r.attribute 13 && (not (is_named_before r.attribute k.taken) && are_parts (r.attribute ∷ k.taken) (cut_from 38 (e + 1) q))
-  form_turned = sym k.form ∙ ap (are_parts k.taken) turned ∙ rw (← i.attribute, untaken r.attribute k.taken)
+  form_turned : is_query q ≡ ltb (attribute_in (part p e q)) 13 && (not (is_named_before (attribute_in (part p e q)) k.taken) && are_parts (attribute_in (part p e q) ∷ k.taken) (cut_from 38 (e + 1) q))
+  form_turned = sym k.form ∙ ap (are_parts k.taken) turned ∙ rw (untaken (attribute_in (part p e q)) k.taken)
 
-  pub asking_unknown : 12 < r.attribute → is_query q ≡ false
-  asking_unknown u = form_turned ∙ rw (le-ltb r.attribute 13 (omega arith))
+  pub asking_unknown : ltb (attribute_in (part p e q)) 13 ≡ false → is_query q ≡ false
+  asking_unknown u = form_turned ∙ rw u
 
-  pub asking_twice : ((get_or spans r.attribute nowhere).end ≡ 0 → ⊥) → is_query q ≡ false
-  asking_twice z = form_turned ∙ rw (k.marked r.attribute ∙ ap not (ne_eqb (get_or spans r.attribute nowhere).end 0 z), and-false)
+  module _ {r : Part} (i : PartHas (part p e q) r) where
+    marked_by : is_named_before r.attribute k.taken ≡ not (eqb (get_or spans r.attribute nowhere).end 0)
+    marked_by = k.marked r.attribute
 
-  -- a part that passes
-  module _ (few : r.attribute ≤ 12) (new : (get_or spans r.attribute nowhere).end ≡ 0) {v : Read} (read : v ≡ value_of frontends r.attribute (part (p + r.value) e q)) where
-    abbrev b : ℕ
-    b = r.attribute
+    pub asking_twice : ((get_or spans r.attribute nowhere).end ≡ 0 → ⊥) → is_query q ≡ false
+    asking_twice z =
+        form_turned
+        ∙ rw (← i.attribute, marked_by ∙ ap not (ne_eqb (get_or spans r.attribute nowhere).end 0 z), and-false)
 
-    free : is_named_before b k.taken ≡ false
-    free = k.marked b ∙ ap not (eq-eqb (get_or spans b nowhere).end 0 new)
+    pub few : r.attribute ≤ 12
+    few = let l : attribute_in (part p e q) < 13 = ltb-true (attribute_in (part p e q)) 13 i.known in omega (arith, i.attribute)
 
-    bounds : p + r.value < e
-    bounds = value_inside q p e (omega (arith, f.within)) i few
+    -- a part that passes
+    module _ (new : (get_or spans r.attribute nowhere).end ≡ 0) {v : Read} (read : v ≡ value_of frontends r.attribute (part (p + r.value) e q)) where
+      abbrev b : ℕ
+      b = r.attribute
 
-    value_is : part (p + r.value) e q ≡ part_value (part p e q)
-    value_is =
-        let n : length (part p e q) ≡ e - p = part_length p e q (omega (arith, f.within)) in
-        let m : p + (e - p) ≡ e = omega (arith, f.from) in
-        ap (λ j. part (p + r.value) j q) (sym m) ∙ sym (part_part r.value (e - p) p e q (omega arith))
-        ∙ part_rest r.value (e - p) (part p e q) (omega arith) ∙ ap (λ j. drop j (part p e q)) i.value
+      free : is_named_before b k.taken ≡ false
+      free = k.marked b ∙ ap not (eq-eqb (get_or spans b nowhere).end 0 new)
 
-    v_is : v ≡ value_of frontends b (part_value (part p e q))
-    v_is = read ∙ ap (value_of frontends b) value_is
+      bounds : p + r.value < e
+      bounds = value_inside q p e (omega (arith, f.within)) i
 
-    abbrev here : Span
-    here = record { start = p + r.value; end = e }
+      value_is : part (p + r.value) e q ≡ part_value (part p e q)
+      value_is =
+          let n : length (part p e q) ≡ e - p = part_length p e q (omega (arith, f.within)) in
+          let m : p + (e - p) ≡ e = omega (arith, f.from) in
+          ap (λ j. part (p + r.value) j q) (sym m) ∙ sym (part_part r.value (e - p) p e q (omega arith))
+          ∙ part_rest r.value (e - p) (part p e q) (omega arith) ∙ ap (λ j. drop j (part p e q)) i.value
 
-    pub asking_more : Asking frontends q (e + 1) (set codes b (code_from v)) (set spans b here) (w && is_value v)
-    unfolding start_of
-    asking_more =
-        record {
-          inside = omega (arith, f.within);
-          long = length-set codes b (code_from v) ∙ k.long;
-          wide = length-set spans b here ∙ k.wide;
-          taken = b ∷ k.taken;
-          form = sym (form_turned ∙ rw (lt-ltb b 13 (omega (arith, few)), free));
-          marked = λ a. by_cases (ℕ_discrete a b) (λ z. marked_here a z) (λ z. marked_there a z);
-          values = values;
-          coded = λ a. by_cases (ℕ_discrete a b) (λ z. coded_here a z) (λ z. coded_there a z);
-          blank = λ a n. by_cases (ℕ_discrete a b) (λ z. never (rw (eq-eqb a b z)) n) (λ z. blank_there a z n);
-          begins = λ a. by_cases (ℕ_discrete a b) (λ z. begins_here a z) (λ z. begins_there a z);
-          unbegun = λ a n. by_cases (ℕ_discrete a b) (λ z. never (rw (eq-eqb a b z)) n) (λ z. unbegun_there a z n);
-          held = λ a. by_cases (ℕ_discrete a b) (λ z. held_here a z) (λ z. held_there a z);
-        }
-      where
-        same_span : (a : ℕ) → a ≡ b → get_or (set spans b here) a nowhere ≡ here
-        same_span a z = rw z (get_or-set_same spans b here nowhere (omega (arith, few, k.wide)))
+      v_is : v ≡ value_of frontends b (part_value (part p e q))
+      v_is = read ∙ ap (value_of frontends b) value_is
 
-        other_span : (a : ℕ) → (a ≡ b → ⊥) → get_or (set spans b here) a nowhere ≡ get_or spans a nowhere
-        other_span a z = get_or-set_other spans b a here nowhere z
+      abbrev here : Span
+      here = record { start = p + r.value; end = e }
 
-        among : (a : ℕ) → (a ≡ b → ⊥) → is_named_before a (b ∷ k.taken) ≡ is_named_before a k.taken
-        among a z = rw (ne_eqb a b z)
+      pub asking_more : Asking frontends q (e + 1) (set codes b (code_from v)) (set spans b here) (w && is_value v)
+      unfolding start_of
+      asking_more =
+          record {
+            inside = omega (arith, f.within);
+            long = length-set codes b (code_from v) ∙ k.long;
+            wide = length-set spans b here ∙ k.wide;
+            taken = b ∷ k.taken;
+            form = sym (form_turned ∙ rw (← i.attribute, lt-ltb b 13 (omega (arith, few)), free));
+            marked = λ a. by_cases (ℕ_discrete a b) (λ z. marked_here a z) (λ z. marked_there a z);
+            values = values;
+            coded = λ a. by_cases (ℕ_discrete a b) (λ z. coded_here a z) (λ z. coded_there a z);
+            blank = λ a n. by_cases (ℕ_discrete a b) (λ z. never (rw (eq-eqb a b z)) n) (λ z. blank_there a z n);
+            begins = λ a. by_cases (ℕ_discrete a b) (λ z. begins_here a z) (λ z. begins_there a z);
+            unbegun = λ a n. by_cases (ℕ_discrete a b) (λ z. never (rw (eq-eqb a b z)) n) (λ z. unbegun_there a z n);
+            held = λ a. by_cases (ℕ_discrete a b) (λ z. held_here a z) (λ z. held_there a z);
+          }
+        where
+          same_span : (a : ℕ) → a ≡ b → get_or (set spans b here) a nowhere ≡ here
+          same_span a z = rw z (get_or-set_same spans b here nowhere (omega (arith, few, k.wide)))
 
-        marked_here : (a : ℕ) → a ≡ b → is_named_before a (b ∷ k.taken) ≡ not (eqb (get_or (set spans b here) a nowhere).end 0)
-        marked_here a z = rw (same_span a z, eq-eqb a b z, ne_eqb e 0 (λ y. omega (arith, bounds)))
+          other_span : (a : ℕ) → (a ≡ b → ⊥) → get_or (set spans b here) a nowhere ≡ get_or spans a nowhere
+          other_span a z = get_or-set_other spans b a here nowhere z
 
-        marked_there : (a : ℕ) → (a ≡ b → ⊥) → is_named_before a (b ∷ k.taken) ≡ not (eqb (get_or (set spans b here) a nowhere).end 0)
-        marked_there a z = among a z ∙ k.marked a ∙ ap (λ (s : Span). not (eqb s.end 0)) (sym (other_span a z))
+          among : (a : ℕ) → (a ≡ b → ⊥) → is_named_before a (b ∷ k.taken) ≡ is_named_before a k.taken
+          among a z = rw (ne_eqb a b z)
 
-        assoc : (x y z : Bool) → (x && y) && z ≡ x && (y && z)
-        assoc true y z = refl
-        assoc false y z = refl
+          marked_here : (a : ℕ) → a ≡ b → is_named_before a (b ∷ k.taken) ≡ not (eqb (get_or (set spans b here) a nowhere).end 0)
+          marked_here a z = rw (same_span a z, eq-eqb a b z, ne_eqb e 0 (λ y. omega (arith, bounds)))
 
-        values : (w && is_value v) && all (is_within frontends) (cut_from 38 (e + 1) q) ≡ are_within frontends q
-        values =
-            assoc w (is_value v) (all (is_within frontends) (cut_from 38 (e + 1) q))
-            ∙ ap (λ x. w && (x && all (is_within frontends) (cut_from 38 (e + 1) q))) (ap is_value (v_is ∙ ap (λ j. value_of frontends j (part_value (part p e q))) i.attribute))
-            ∙ ap (λ l. w && all (is_within frontends) l) (sym turned) ∙ k.values
+          marked_there : (a : ℕ) → (a ≡ b → ⊥) → is_named_before a (b ∷ k.taken) ≡ not (eqb (get_or (set spans b here) a nowhere).end 0)
+          marked_there a z = among a z ∙ k.marked a ∙ ap (λ (s : Span). not (eqb s.end 0)) (sym (other_span a z))
 
-        code_turned : (a : ℕ) → code_among frontends a (cut_from 38 p q) ≡ cond (eqb b a) (code_from (value_of frontends a (part_value (part p e q)))) (code_among frontends a (cut_from 38 (e + 1) q))
-        code_turned a = ap (code_among frontends a) turned ∙ rw (← i.attribute)
+          assoc : (x y z : Bool) → (x && y) && z ≡ x && (y && z)
+          assoc true y z = refl
+          assoc false y z = refl
 
-        coded_here : (a : ℕ) → a ≡ b → code_of frontends a q ≡ cond (is_named_before a (b ∷ k.taken)) (get_or (set codes b (code_from v)) a 0) (code_among frontends a (cut_from 38 (e + 1) q))
-        coded_here a z =
-            k.coded a ∙ rw (z, free) (code_turned b ∙ rw (eq-eqb b b refl, get_or-set_same codes b (code_from v) 0 (omega (arith, few, k.long))) (ap code_from (sym v_is)))
+          values : (w && is_value v) && all (is_within frontends) (cut_from 38 (e + 1) q) ≡ are_within frontends q
+          values =
+              assoc w (is_value v) (all (is_within frontends) (cut_from 38 (e + 1) q))
+              ∙ ap (λ x. w && (x && all (is_within frontends) (cut_from 38 (e + 1) q))) (ap is_value (v_is ∙ ap (λ j. value_of frontends j (part_value (part p e q))) i.attribute))
+              ∙ ap (λ l. w && all (is_within frontends) l) (sym turned) ∙ k.values
 
-        coded_there : (a : ℕ) → (a ≡ b → ⊥) → code_of frontends a q ≡ cond (is_named_before a (b ∷ k.taken)) (get_or (set codes b (code_from v)) a 0) (code_among frontends a (cut_from 38 (e + 1) q))
-        coded_there a z =
-            k.coded a
-            ∙ rw (among a z, get_or-set_other codes b a (code_from v) 0 z)
-            (ap (λ c. cond (is_named_before a k.taken) (get_or codes a 0) c) (code_turned a ∙ rw (ne_eqb b a (λ y. z (sym y)))))
+          code_turned : (a : ℕ) → code_among frontends a (cut_from 38 p q) ≡ cond (eqb b a) (code_from (value_of frontends a (part_value (part p e q)))) (code_among frontends a (cut_from 38 (e + 1) q))
+          code_turned a = ap (code_among frontends a) turned ∙ rw (← i.attribute)
 
-        blank_there : (a : ℕ) → (a ≡ b → ⊥) → is_named_before a (b ∷ k.taken) ≡ false → get_or (set codes b (code_from v)) a 0 ≡ 0
-        blank_there a z n = get_or-set_other codes b a (code_from v) 0 z ∙ k.blank a (sym (among a z) ∙ n)
+          coded_here : (a : ℕ) → a ≡ b → code_of frontends a q ≡ cond (is_named_before a (b ∷ k.taken)) (get_or (set codes b (code_from v)) a 0) (code_among frontends a (cut_from 38 (e + 1) q))
+          coded_here a z =
+              k.coded a ∙ rw (z, free) (code_turned b ∙ rw (eq-eqb b b refl, get_or-set_same codes b (code_from v) 0 (omega (arith, few, k.long))) (ap code_from (sym v_is)))
 
-        start_turned : (a : ℕ) → start_among a p (cut_from 38 p q) ≡ cond (eqb b a) (p + r.value) (start_among a (e + 1) (cut_from 38 (e + 1) q))
-        start_turned a =
-            let m : length (part p e q) ≡ e - p = part_length p e q (omega (arith, f.within)) in
-            let n : p + length (part p e q) + 1 ≡ e + 1 = omega (arith, f.from) in
-            ap (start_among a p) turned ∙ rw (← i.attribute, ← i.value, n)
+          coded_there : (a : ℕ) → (a ≡ b → ⊥) → code_of frontends a q ≡ cond (is_named_before a (b ∷ k.taken)) (get_or (set codes b (code_from v)) a 0) (code_among frontends a (cut_from 38 (e + 1) q))
+          coded_there a z =
+              k.coded a
+              ∙ rw (among a z, get_or-set_other codes b a (code_from v) 0 z)
+              (ap (λ c. cond (is_named_before a k.taken) (get_or codes a 0) c) (code_turned a ∙ rw (ne_eqb b a (λ y. z (sym y)))))
 
-        begins_here : (a : ℕ) → a ≡ b → start_of a q ≡ cond (is_named_before a (b ∷ k.taken)) (get_or (set spans b here) a nowhere).start (start_among a (e + 1) (cut_from 38 (e + 1) q))
-        begins_here a z = k.begins a ∙ rw (same_span a z, z, free) (start_turned b ∙ rw (eq-eqb b b refl))
+          blank_there : (a : ℕ) → (a ≡ b → ⊥) → is_named_before a (b ∷ k.taken) ≡ false → get_or (set codes b (code_from v)) a 0 ≡ 0
+          blank_there a z n = get_or-set_other codes b a (code_from v) 0 z ∙ k.blank a (sym (among a z) ∙ n)
 
-        begins_there : (a : ℕ) → (a ≡ b → ⊥) → start_of a q ≡ cond (is_named_before a (b ∷ k.taken)) (get_or (set spans b here) a nowhere).start (start_among a (e + 1) (cut_from 38 (e + 1) q))
-        begins_there a z =
-            k.begins a
-            ∙ rw (among a z, other_span a z)
-            (ap (λ c. cond (is_named_before a k.taken) (get_or spans a nowhere).start c) (start_turned a ∙ rw (ne_eqb b a (λ y. z (sym y)))))
+          start_turned : (a : ℕ) → start_among a p (cut_from 38 p q) ≡ cond (eqb b a) (p + r.value) (start_among a (e + 1) (cut_from 38 (e + 1) q))
+          start_turned a =
+              let m : length (part p e q) ≡ e - p = part_length p e q (omega (arith, f.within)) in
+              let n : p + length (part p e q) + 1 ≡ e + 1 = omega (arith, f.from) in
+              ap (start_among a p) turned ∙ rw (← i.attribute, ← i.value, n)
 
-        unbegun_there : (a : ℕ) → (a ≡ b → ⊥) → is_named_before a (b ∷ k.taken) ≡ false → (get_or (set spans b here) a nowhere).start ≡ 0
-        unbegun_there a z n = ap (λ (s : Span). s.start) (other_span a z) ∙ k.unbegun a (sym (among a z) ∙ n)
+          begins_here : (a : ℕ) → a ≡ b → start_of a q ≡ cond (is_named_before a (b ∷ k.taken)) (get_or (set spans b here) a nowhere).start (start_among a (e + 1) (cut_from 38 (e + 1) q))
+          begins_here a z = k.begins a ∙ rw (same_span a z, z, free) (start_turned b ∙ rw (eq-eqb b b refl))
 
-        text_turned : (a : ℕ) → text_among a (cut_from 38 p q) ≡ cond (eqb b a) (part_value (part p e q)) (text_among a (cut_from 38 (e + 1) q))
-        text_turned a = ap (text_among a) turned ∙ rw (← i.attribute)
+          begins_there : (a : ℕ) → (a ≡ b → ⊥) → start_of a q ≡ cond (is_named_before a (b ∷ k.taken)) (get_or (set spans b here) a nowhere).start (start_among a (e + 1) (cut_from 38 (e + 1) q))
+          begins_there a z =
+              k.begins a
+              ∙ rw (among a z, other_span a z)
+              (ap (λ c. cond (is_named_before a k.taken) (get_or spans a nowhere).start c) (start_turned a ∙ rw (ne_eqb b a (λ y. z (sym y)))))
 
-        held_value : Holds q (part_value (part p e q)) (p + r.value) e
-        held_value = record { order = omega (arith, bounds); within = omega (arith, f.within); is = value_is }
+          unbegun_there : (a : ℕ) → (a ≡ b → ⊥) → is_named_before a (b ∷ k.taken) ≡ false → (get_or (set spans b here) a nowhere).start ≡ 0
+          unbegun_there a z n = ap (λ (s : Span). s.start) (other_span a z) ∙ k.unbegun a (sym (among a z) ∙ n)
 
-        held_here : (a : ℕ) → a ≡ b → Spanned q (text_of a q) (text_among a (cut_from 38 (e + 1) q)) (is_named_before a (b ∷ k.taken)) (get_or (set spans b here) a nowhere)
-        held_here a z =
-            let text : text_of b q ≡ part_value (part p e q) = ((k.held b).later free).0 ∙ text_turned b ∙ rw (eq-eqb b b refl) in
-            rw (same_span a z, z) (record { there = λ _. rw text held_value; later = λ n. never (rw (eq-eqb b b refl)) n })
+          text_turned : (a : ℕ) → text_among a (cut_from 38 p q) ≡ cond (eqb b a) (part_value (part p e q)) (text_among a (cut_from 38 (e + 1) q))
+          text_turned a = ap (text_among a) turned ∙ rw (← i.attribute)
 
-        held_there : (a : ℕ) → (a ≡ b → ⊥) → Spanned q (text_of a q) (text_among a (cut_from 38 (e + 1) q)) (is_named_before a (b ∷ k.taken)) (get_or (set spans b here) a nowhere)
-        held_there a z =
-            rw (other_span a z, among a z)
-            (record {
-              there = (k.held a).there;
-              later = λ n. (((k.held a).later n).0 ∙ text_turned a ∙ rw (ne_eqb b a (λ y. z (sym y))), ((k.held a).later n).1);
-            })
+          held_value : Holds q (part_value (part p e q)) (p + r.value) e
+          held_value = record { order = omega (arith, bounds); within = omega (arith, f.within); is = value_is }
+
+          held_here : (a : ℕ) → a ≡ b → Spanned q (text_of a q) (text_among a (cut_from 38 (e + 1) q)) (is_named_before a (b ∷ k.taken)) (get_or (set spans b here) a nowhere)
+          held_here a z =
+              let text : text_of b q ≡ part_value (part p e q) = ((k.held b).later free).0 ∙ text_turned b ∙ rw (eq-eqb b b refl) in
+              rw (same_span a z, z) (record { there = λ _. rw text held_value; later = λ n. never (rw (eq-eqb b b refl)) n })
+
+          held_there : (a : ℕ) → (a ≡ b → ⊥) → Spanned q (text_of a q) (text_among a (cut_from 38 (e + 1) q)) (is_named_before a (b ∷ k.taken)) (get_or (set spans b here) a nowhere)
+          held_there a z =
+              rw (other_span a z, among a z)
+              (record {
+                there = (k.held a).there;
+                later = λ n. (((k.held a).later n).0 ∙ text_turned a ∙ rw (ne_eqb b a (λ y. z (sym y))), ((k.held a).later n).1);
+              })

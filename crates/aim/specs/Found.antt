@@ -1,6 +1,6 @@
 -- What the functions of this crate promise each other and the crates above: what was found of a query and a URI, and where it stands. No call
 -- of the box reaches it. Assumes nothing.
-use Rattle.std.specs.Prelude.{ℕ, ◌+◌, ◌≤◌, ◌≡◌, true, false, Bool, not, cond, ◌&&◌, ◌||◌, List, [], ◌∷◌, eqb, ltb, length, get_or, replicate}
+use Rattle.std.specs.Prelude.{ℕ, ◌+◌, ◌≤◌, ◌≡◌, true, false, Bool, not, cond, ◌&&◌, ◌||◌, List, [], ◌∷◌, eqb, ltb, length, get_or, replicate, Option, MatchOption, Result, Ok, Err}
 use Rattle.scan.specs.Found.{Holds, nowhere, place_in}
 use Rattle.aim.specs.declared.query.Part.{Part}
 use Rattle.aim.specs.declared.query.Query.{Query}
@@ -77,23 +77,23 @@ unfoldable pub start_of : ℕ → List ℕ → ℕ
 start_of a q = start_among a 0 (cut 38 q)
 
 -- what one part is: its attribute, and where its value starts
-pub record PartIs (p : List ℕ) (r : Part) : Type 0 where
+pub record PartHas (p : List ℕ) (r : Part) : Type 0 where
   pub attribute : r.attribute ≡ attribute_in p
+  pub known : ltb (attribute_in p) 13 ≡ true
   pub value : r.value ≡ equals p + 1
 
--- what is given of a query that is wrong in form
-abbrev pub broken_query : Query
-broken_query = record { codes = replicate 13 0; spans = replicate 13 nowhere; sound = false; within = false }
+-- one part: none where it names no attribute or has no value
+abbrev pub PartIs : List ℕ → Option Part → Type 0
+PartIs p r = MatchOption r (ltb (attribute_in p) 13 ≡ false) (PartHas p)
 
--- whether the query has its form, and then whether its values are in the table, their codes, and where their texts stand
+-- of a query that has its form, whether its values are in the table, their codes, and where their texts stand
 pub record QueryIs (frontends : ℕ) (q : List ℕ) (r : Query) : Type 0 where
-  pub sound : r.sound ≡ is_query q
-  pub within : r.sound ≡ true → r.within ≡ are_within frontends q
-  pub codes : r.sound ≡ true → (a : ℕ) → get_or r.codes a 0 ≡ code_of frontends a q
-  pub spans : r.sound ≡ true → (a : ℕ) → Holds q (text_of a q) (get_or r.spans a nowhere).start (get_or r.spans a nowhere).end
-  pub starts : r.sound ≡ true → (a : ℕ) → (get_or r.spans a nowhere).start ≡ start_of a q
+  pub form : is_query q ≡ true
+  pub within : r.within ≡ are_within frontends q
+  pub codes : (a : ℕ) → get_or r.codes a 0 ≡ code_of frontends a q
+  pub spans : (a : ℕ) → Holds q (text_of a q) (get_or r.spans a nowhere).start (get_or r.spans a nowhere).end
+  pub starts : (a : ℕ) → (get_or r.spans a nowhere).start ≡ start_of a q
   pub thirteen : (length r.codes ≡ 13) × (length r.spans ≡ 13)
-  pub broken : r.sound ≡ false → r ≡ broken_query
 
 -- where an attribute's text starts in a URI's query
 abbrev pub start_in : ℕ → List ℕ → ℕ
@@ -103,17 +103,11 @@ start_in a u = cond (has_query u) (start_of a (query_of u)) 0
 abbrev pub query_start : List ℕ → ℕ
 query_start u = cond (has_query u) (question u + 1) 0
 
--- what is given of a refused URI
-abbrev pub refused_aim : Refusal → Aim
-refused_aim refusal =
-    record { codes = replicate 13 0; spans = replicate 13 nowhere; refusal = refusal; stream = 0; host = nowhere; query = nowhere }
-
--- a URI of right length and form, with a query or without
-pub record Reached (u : List ℕ) (t : Uri) (asked : Bool) : Type 0 where
+-- a URI of right length and form, whose query starts at a place if there is one
+pub record Reached (u : List ℕ) (t : Uri) (start : Option ℕ) : Type 0 where
   pub short : length u ≤ 1024
   pub is : UriIs u t
-  pub sound : t.sound ≡ true
-  pub query : t.asked ≡ asked
+  pub query : t.query ≡ start
 
 -- whether a span holds anything
 abbrev pub is_span : Span → Bool
@@ -128,6 +122,11 @@ judged clash unstreamed outside lacks =
     lacks gives NoStream or
     Passed
 
+-- nothing refuses, or that refusal
+abbrev pub Judged : {A : Type 0} → Result A Refusal → Refusal → Type 0
+Judged (Ok x) refusal = refusal ≡ Passed
+Judged (Err e) refusal = (e ≡ refusal) × (is_read e ≡ false)
+
 -- what is wrong with a query that has its form, by what was read of it
 abbrev pub verdict_of : Method → Bool → Query → Refusal
 verdict_of method stream q =
@@ -136,15 +135,24 @@ verdict_of method stream q =
     (not q.within)
     (lacks_stream method stream true)
 
--- which refusal applies first; where none does, what the URI asks and where that stands
+-- what a URI without a query asks, by what was read of it
+abbrev pub unasked : Method → Uri → Result Aim Refusal
+unasked method t =
+    cond (lacks_stream method (not (eqb t.stream 0)) false) (Err NoStream)
+    (Ok (record { codes = replicate 13 0; spans = replicate 13 nowhere; stream = t.stream; host = t.host; query = nowhere }))
+
+-- the first refusal that applies
+abbrev pub Refuses : ℕ → Method → List ℕ → Refusal → Type 0
+Refuses frontends method u refusal = (refusal ≡ uri_refusal frontends method u) × (is_read refusal ≡ false)
+
+-- what a URI that nothing refuses asks, and where that stands
 pub record AimIs (frontends : ℕ) (method : Method) (u : List ℕ) (r : Aim) : Type 0 where
-  pub refusal : r.refusal ≡ uri_refusal frontends method u
-  pub stream : r.refusal ≡ Passed → Number r.stream ≡ stream_named u
-  pub host : r.refusal ≡ Passed → Holds u (host_of u) r.host.start r.host.end
-  pub query : r.refusal ≡ Passed → Holds u (query_of u) r.query.start r.query.end
-  pub codes : r.refusal ≡ Passed → (a : ℕ) → get_or r.codes a 0 ≡ code_in frontends a (parts_of u)
-  pub spans : r.refusal ≡ Passed → (a : ℕ) → Holds (query_of u) (text_in a (parts_of u)) (get_or r.spans a nowhere).start (get_or r.spans a nowhere).end
-  pub host_starts : r.refusal ≡ Passed → r.host.start ≡ 7
-  pub query_starts : r.refusal ≡ Passed → r.query.start ≡ query_start u
-  pub starts : r.refusal ≡ Passed → (a : ℕ) → (get_or r.spans a nowhere).start ≡ start_in a u
-  pub refused : is_read r.refusal ≡ false → r ≡ refused_aim r.refusal
+  pub passes : uri_refusal frontends method u ≡ Passed
+  pub stream : Number r.stream ≡ stream_named u
+  pub host : Holds u (host_of u) r.host.start r.host.end
+  pub query : Holds u (query_of u) r.query.start r.query.end
+  pub codes : (a : ℕ) → get_or r.codes a 0 ≡ code_in frontends a (parts_of u)
+  pub spans : (a : ℕ) → Holds (query_of u) (text_in a (parts_of u)) (get_or r.spans a nowhere).start (get_or r.spans a nowhere).end
+  pub host_starts : r.host.start ≡ 7
+  pub query_starts : r.query.start ≡ query_start u
+  pub starts : (a : ℕ) → (get_or r.spans a nowhere).start ≡ start_in a u

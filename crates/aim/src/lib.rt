@@ -3,8 +3,8 @@
 
 mod query;
 
-ghost use Rattle.std.specs.Prelude.{◌≡◌, true, false, length};
-ghost use Rattle.aim.specs.Found.{takes_no_query, lacks_stream, judged, is_span, verdict_of, Reached, refused_aim, AimIs};
+ghost use Rattle.std.specs.Prelude.{◌≡◌, Some, MatchResult};
+ghost use Rattle.aim.specs.Found.{takes_no_query, lacks_stream, Judged, judged, is_span, verdict_of, Reached, unasked, AimIs, Refuses};
 
 use query::Query;
 use refusals::Refusal;
@@ -27,7 +27,6 @@ pub enum Method {
 pub struct Aim {
     pub codes: [u32; 13],
     pub spans: [Span; 13],
-    pub refusal: Refusal,
     pub stream: u32,
     pub host: Span,
     pub query: Span,
@@ -50,19 +49,6 @@ fn takes_no_query(method: Method) -> bool
     }
 }
 
-fn refused(refusal: Refusal) -> Aim
-    ensures { result ≡ refused_aim refusal }
-{
-    Aim {
-        codes: [0; 13],
-        spans: [Span { start: 0, end: 0 }; 13],
-        refusal,
-        stream: 0,
-        host: Span { start: 0, end: 0 },
-        query: Span { start: 0, end: 0 },
-    }
-}
-
 fn lacks_stream(method: Method, stream: bool, query: bool) -> bool
     ensures { result ≡ lacks_stream method stream query }
 {
@@ -81,47 +67,43 @@ fn is_span(s: Span) -> bool
     s.start < s.end
 }
 
-fn judge(clash: bool, unstreamed: bool, outside: bool, lacks: bool) -> Refusal
-    ensures { result ≡ judged clash unstreamed outside lacks }
+fn judge(clash: bool, unstreamed: bool, outside: bool, lacks: bool) -> Result<(), Refusal>
+    ensures { Judged result (judged clash unstreamed outside lacks) }
 {
     if clash {
-        return Refusal::PidsClash;
+        return Err(Refusal::PidsClash);
     }
     if unstreamed {
-        return Refusal::PidsUnstreamed;
+        return Err(Refusal::PidsUnstreamed);
     }
     if outside {
-        return Refusal::Value;
+        return Err(Refusal::Value);
     }
     if lacks {
-        return Refusal::NoStream;
+        return Err(Refusal::NoStream);
     }
-    Refusal::Passed
+    Ok(())
 }
 
 // A URI without a query.
-fn unasked(method: Method, u: &[u8], uri: Uri, frontends: u8) -> Aim
-    requires { Reached u.now uri false }
-    ensures { AimIs frontends method u.now result }
+fn unasked(method: Method, uri: Uri) -> Result<Aim, Refusal>
+    ensures { result ≡ unasked method uri }
 {
     if lacks_stream(method, uri.stream != 0, false) {
-        return refused(Refusal::NoStream);
+        return Err(Refusal::NoStream);
     }
-    let host = uri.host;
-    Aim {
+    Ok(Aim {
         codes: [0; 13],
         spans: [Span { start: 0, end: 0 }; 13],
-        refusal: Refusal::Passed,
         stream: uri.stream,
-        host,
+        host: uri.host,
         query: Span { start: 0, end: 0 },
-    }
+    })
 }
 
 // What is wrong with a query that has its form.
-fn verdict(method: Method, stream: bool, query: Query) -> Refusal
-    requires { length query.spans ≡ 13 }
-    ensures { result ≡ verdict_of method stream query }
+fn verdict(method: Method, stream: bool, query: &Query) -> Result<(), Refusal>
+    ensures { Judged result (verdict_of method stream query.now) }
 {
     let pids = is_span(query.spans[10]);
     let edits = is_span(query.spans[11]) | is_span(query.spans[12]);
@@ -129,53 +111,38 @@ fn verdict(method: Method, stream: bool, query: Query) -> Refusal
     judge(pids & edits, edits & !stream, !query.within, lacks)
 }
 
-// A URI with a query.
-fn asked(method: Method, u: &[u8], uri: Uri, frontends: u8) -> Aim
-    requires { Reached u.now uri true }
-    ensures { AimIs frontends method u.now result }
+// A URI with a query, which starts at a place.
+fn asked(method: Method, u: &[u8], uri: Uri, start: usize, frontends: u8) -> Result<Aim, Refusal>
+    requires { Reached u.now uri (Some start) }
+    ensures { MatchResult result (AimIs frontends method u.now) (Refuses frontends method u.now) }
 {
     if takes_no_query(method) {
-        return refused(Refusal::QueryUntaken);
+        return Err(Refusal::QueryUntaken);
     }
-    let start = uri.query;
-    let q = query::read_query(&u[start..], frontends);
-    if !q.sound {
-        return refused(Refusal::QueryForm);
-    }
-    let v = verdict(method, uri.stream != 0, q);
-    if !refusals::is_passed(v) {
-        return refused(v);
-    }
-    let codes = q.codes;
-    let spans = q.spans;
-    let host = uri.host;
-    Aim {
-        codes,
-        spans,
-        refusal: v,
+    let q = query::read_query(&u[start..], frontends).ok_or(Refusal::QueryForm)?;
+    verdict(method, uri.stream != 0, &q)?;
+    Ok(Aim {
+        codes: q.codes,
+        spans: q.spans,
         stream: uri.stream,
-        host,
+        host: uri.host,
         query: Span {
             start,
             end: u.len(),
         },
-    }
+    })
 }
 
 // Reads a URI that was sent with a method to a box with so many frontends.
-pub fn read_aim(method: Method, u: &[u8], frontends: u8) -> Aim
-    ensures { AimIs frontends method u.now result }
+pub fn read_aim(method: Method, u: &[u8], frontends: u8) -> Result<Aim, Refusal>
+    ensures { MatchResult result (AimIs frontends method u.now) (Refuses frontends method u.now) }
 {
     if Aim::LONGEST < u.len() {
-        return refused(Refusal::UriLong);
+        return Err(Refusal::UriLong);
     }
-    let uri = target::read_uri(u);
-    if !uri.sound {
-        return refused(Refusal::UriForm);
-    }
-    if uri.asked {
-        asked(method, u, uri, frontends)
-    } else {
-        unasked(method, u, uri, frontends)
+    let uri = target::read_uri(u).ok_or(Refusal::UriForm)?;
+    match uri.query {
+        Some(start) => asked(method, u, uri, start, frontends),
+        None => unasked(method, uri),
     }
 }
