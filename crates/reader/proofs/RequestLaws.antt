@@ -6,7 +6,7 @@ use Prim.Native.Nat.{ℕ, zero, suc, ◌+◌, ◌-◌, ◌≤◌, ◌<◌, min}
 use native.Mathlib.Omega.{arith}
 use lib.Dec.{ltb, eqb}
 use lib.ListN.{length, get_or}
-use borrow.Author.Tests.{lt-ltb, le-ltb, eq-eqb, ne_eqb}
+use borrow.Author.Tests.{lt-ltb, eq-eqb, ne_eqb}
 use Rattle.scan.specs.Text.{text, is_empty, are_alike}
 use Rattle.scan.specs.Lists.{part, ◌gives◌or◌}
 use Rattle.scan.specs.Found.{Holds, text_at, nowhere}
@@ -20,15 +20,18 @@ use Rattle.digits.specs.Standing.{Stands, digits_at}
 use Rattle.digits.proofs.Limits.{are_digits_law}
 use Rattle.lines.specs.Lines.{is_laid_out, request_line, header_lines}
 use Rattle.lines.specs.Headers.{values_of}
-use Rattle.lines.specs.Laid.{first_value, unseen, SeenIs, value_start, LinesAre}
+use Rattle.lines.specs.Laid.{first_value, times_of, place_of, first_seen, unseen, SeenIs, value_start, LinesAre}
+use Rattle.std.specs.Prelude.{Some, None}
 use Rattle.lines.specs.declared.Seen.{Seen}
+use Rattle.lines.specs.declared.Seen.TheVariants.{Never, Once, Again}
 use Rattle.lines.specs.declared.Lines.{Lines}
 use Rattle.target.specs.Line.{is_three, line_part}
 use Rattle.target.specs.Steps.{PartsAre}
 use Rattle.target.specs.declared.Parts.{Parts}
 use Rattle.reader.specs.Fields.{session_of, transport_of}
-use Rattle.reader.specs.Heads.{CseqSeen, cseq_place, CseqIs, session_in, head_text, session_seen, are_twice, Begun, Headed, Passing, uri_start, refused_request, RequestIs, is_other, is_version, method_in, are_repeated}
-use Rattle.aim.specs.Found.{AimIs}
+use Rattle.reader.specs.Heads.{CseqSeen, cseq_place, CseqIs, StandsIn, session_in, head_text, session_seen, are_twice, Begun, Headed, Passing, uri_start, refused_request, RequestIs, is_other, is_version, method_in, are_repeated}
+use Rattle.aim.specs.Aim.{uri_refusal}
+use Rattle.aim.specs.Found.{AimIs, Refuses}
 use Rattle.refusals.specs.Refusals.{is_read, reading_rule}
 use Rattle.reader.specs.Request.{cseq_most, cseq_limit, cseq_of, method_of, uri_of, head_refusal, request_refusal}
 use Rattle.refusals.specs.declared.Refusal.{Refusal}
@@ -40,6 +43,7 @@ use Rattle.reader.specs.declared.Request.{Request}
 use Rattle.reader.specs.declared.fields.Session.{Session}
 use Rattle.reader.specs.declared.fields.Session.TheVariants.{Absent}
 use Rattle.reader.specs.declared.fields.Transport.{Transport}
+use Rattle.reader.specs.declared.fields.Transport.TheVariants.{Other as NoTransport}
 
 -- A HEADER BY ITS PLACE
 -- of a count, two stands for more
@@ -52,17 +56,42 @@ module _ {s : List ℕ} {vs : List (List ℕ)} {seen : Seen} (i : SeenIs s vs se
   pub seen_text : head_text s seen ≡ first_value vs
   seen_text = i.value.is
 
+  pub seen_stands : StandsIn s seen
+  seen_stands = (i.value.order, i.value.within)
+
   pub seen_session : session_seen s seen ≡ session_of vs
   unfolding session_of
   seen_session =
       rw (i.times, seen_text)
       (capped (λ k n. cond (eqb k 0) Absent (session_in (first_value vs)) ≡ cond (eqb n 0) Absent (session_in (first_value vs))) (length vs) refl refl (λ m h. rw (ne_eqb m 0 (λ q. omega arith))))
 
-  pub seen_twice : ltb 1 seen.times ≡ ltb 1 (length vs)
+  pub seen_twice : ltb 1 (times_of seen) ≡ ltb 1 (length vs)
   seen_twice = rw i.times (capped (λ k n. ltb 1 k ≡ ltb 1 n) (length vs) refl refl (λ m h. rw (lt-ltb 1 m (omega arith))))
 
-  pub seen_sent : ltb 0 seen.times ≡ ltb 0 (length vs)
+  pub seen_sent : ltb 0 (times_of seen) ≡ ltb 0 (length vs)
   seen_sent = rw i.times (capped (λ k n. ltb 0 k ≡ ltb 0 n) (length vs) refl refl (λ m h. rw (lt-ltb 0 m (omega arith))))
+
+-- where the first value stands, if a header was sent
+first_there : (seen : Seen) {place : Span} → first_seen seen ≡ Some place → (ltb 0 (times_of seen) ≡ true) × (place_of seen ≡ place)
+first_there Never e = cc
+first_there (Once v) e = (refl, cc)
+first_there (Again v) e = (refl, cc)
+
+first_none : (seen : Seen) → first_seen seen ≡ None → ltb 0 (times_of seen) ≡ false
+first_none Never e = refl
+first_none (Once v) e = cc
+first_none (Again v) e = cc
+
+pub first_session : (s : List ℕ) (seen : Seen) → first_seen seen ≡ None → Absent ≡ session_seen s seen
+first_session s Never e = refl
+first_session s (Once v) e = cc
+first_session s (Again v) e = cc
+
+pub first_transport : (s : List ℕ) (seen : Seen) → first_seen seen ≡ None → NoTransport ≡ transport_of (head_text s seen)
+unfolding transport_of
+first_transport s Never e = refl
+first_transport s (Once v) e = cc
+first_transport s (Again v) e = cc
 
 -- CSEQ
 -- where there is none
@@ -81,36 +110,47 @@ module _ {s : List ℕ} {seen : Seen} (q : CseqSeen s seen) where
   abbrev sent : List (List ℕ)
   sent = values_of 0 (header_lines s)
 
-  abbrev place : Span
-  place = record { start = seen.start; end = seen.end }
-
-  pub cseq_not_once : (seen.times ≡ 1 → ⊥) → CseqIs s nowhere
+  cseq_not_once : (times_of seen ≡ 1 → ⊥) → CseqIs s nowhere
   unfolding cseq_of
   cseq_not_once n = cseq_none s (rw (q.whole, ne_eqb (length sent) 1 (λ e. n (q.values.times ∙ ap (λ k. min k 2) e))))
 
-  module _ (h : seen.times ≡ 1) where
-    cseq_is : cseq_of s ≡ digits_read 10 cseq_most cseq_limit (first_value sent)
-    unfolding cseq_of
-    cseq_is = rw (q.whole, eq-eqb (length sent) 1 (omega (arith, sym q.values.times ∙ h)))
+-- not sent once
+pub cseq_other : {s : List ℕ} (seen : Seen) → CseqSeen s seen → ((place : Span) → seen ≡ Once place → ⊥) → CseqIs s nowhere
+cseq_other Never q n = cseq_not_once q (λ e. let z : ◌≡◌ {A = ℕ} 0 1 = e in omega arith)
+cseq_other (Once place) q n = absurd (n place refl)
+cseq_other (Again place) q n = cseq_not_once q (λ e. let z : ◌≡◌ {A = ℕ} 2 1 = e in omega arith)
 
-    value_is : text_at s place ≡ first_value sent
-    value_is = text_held s (first_value sent) place q.values.value
+-- sent once
+module _ {s : List ℕ} {seen : Seen} {place : Span} (o : seen ≡ Once place) (seen_once : CseqSeen s seen) where
+  q : CseqSeen s (Once place)
+  q = rw o at seen_once
 
-    -- the digits stand where the value stands, if it is a number
-    here : Test (is_value (read_in 10 cseq_most cseq_limit (first_value sent))) → digits_at 10 cseq_most cseq_limit s place ≡ cseq_place s
-    here (is y) =
-        let v = first_value sent in
-        let e : cseq_of s ≡ v = cseq_is ∙ rw y in
-        let n : is_empty v ≡ false = some_text v (are_digits_law 10 cseq_most cseq_limit v y).some in
-        rw (value_is, y, e, n, ← q.starts, ← holds_length q.values.value)
-    here (isnt n) = let e : cseq_of s ≡ [] = cseq_is ∙ rw n in rw (value_is, n, e)
+  abbrev value : List ℕ
+  value = first_value (values_of 0 (header_lines s))
 
-    pub cseq_once : {r : Span} → Stands 10 cseq_most cseq_limit s place r → CseqIs s r
-    cseq_once {r} w =
-        record {
-          is = w.is ∙ here (case (is_value (read_in 10 cseq_most cseq_limit (first_value sent))));
-          held = rw (cseq_is, ← value_is) w.holds;
-        }
+  cseq_is : cseq_of s ≡ digits_read 10 cseq_most cseq_limit value
+  unfolding cseq_of
+  cseq_is = let e : 1 ≡ min (length (values_of 0 (header_lines s))) 2 = q.values.times in
+      rw (q.whole, eq-eqb (length (values_of 0 (header_lines s))) 1 (omega arith))
+
+  value_is : text_at s place ≡ value
+  value_is = text_held s value place q.values.value
+
+  -- the digits stand where the value stands, if it is a number
+  here : Test (is_value (read_in 10 cseq_most cseq_limit value)) → digits_at 10 cseq_most cseq_limit s place ≡ cseq_place s
+  here (is y) =
+      let v = value in
+      let e : cseq_of s ≡ v = cseq_is ∙ rw y in
+      let n : is_empty v ≡ false = some_text v (are_digits_law 10 cseq_most cseq_limit v y).some in
+      rw (value_is, y, e, n, ← q.starts, ← holds_length q.values.value)
+  here (isnt n) = let e : cseq_of s ≡ [] = cseq_is ∙ rw n in rw (value_is, n, e)
+
+  pub cseq_once : {r : Span} → Stands 10 cseq_most cseq_limit s place r → CseqIs s r
+  cseq_once {r} w =
+      record {
+        is = w.is ∙ here (case (is_value (read_in 10 cseq_most cseq_limit value)));
+        held = rw (cseq_is, ← value_is) w.holds;
+      }
 
 -- REFUSED REQUESTS
 pub request_refused : {frontends : ℕ} {s : List ℕ} {r : Request} {x : Refusal} {c v : Span} → is_read x ≡ false
@@ -146,21 +186,17 @@ pub head_refused : {frontends : ℕ} {s : List ℕ} {r : Request} {x : Refusal} 
 unfolding request_refusal
 head_refused h n k d q = request_refused n (λ z. absurd (k (ap (λ r. (reading_rule r).0) (sym h ∙ z)))) (λ _. refl) (rw (h, n)) d q
 
+pub request_broken : (s : List ℕ) → is_laid_out s ≡ false → (head_refusal s ≡ Layout) × CseqIs s nowhere
+unfolding head_refusal cseq_of
+request_broken s b = (rw b, cseq_none s (rw b))
+
 module _ (s : List ℕ) {l : Lines} (i : LinesAre s l) where
-  pub request_broken : l.sound ≡ false → (head_refusal s ≡ Layout) × CseqIs s nowhere
-  unfolding head_refusal cseq_of
-  request_broken n = let b : is_laid_out s ≡ false = sym i.sound ∙ n in (rw b, cseq_none s (rw b))
+  pub cseq_seen : CseqSeen s (get_or l.headers 0 unseen)
+  cseq_seen = record { whole = i.whole; values = i.headers 0 (omega arith); starts = i.starts 0 (omega arith) }
 
-  module _ (y : l.sound ≡ true) where
-    laid : is_laid_out s ≡ true
-    laid = sym i.sound ∙ y
-
-    pub cseq_seen : CseqSeen s (get_or l.headers 0 unseen)
-    cseq_seen = record { whole = laid; values = i.headers y 0 (omega arith); starts = i.starts y 0 (omega arith) }
-
-    pub request_uncounted : is_empty (cseq_of s) ≡ true → head_refusal s ≡ CSeq
-    unfolding head_refusal
-    request_uncounted n = rw (laid, n)
+  pub request_uncounted : is_empty (cseq_of s) ≡ true → head_refusal s ≡ CSeq
+  unfolding head_refusal
+  request_uncounted n = rw (i.whole, n)
 
 -- WHAT A REQUEST ASKS
 pub request_passed : {frontends : ℕ} {s : List ℕ} {l : Lines} {c : Span} {m : Method} {from : ℕ} {a : Aim} {x : Session} {y : Transport} {v : Span} → Passing frontends s l c m from a
@@ -168,7 +204,7 @@ pub request_passed : {frontends : ℕ} {s : List ℕ} {l : Lines} {c : Span} {m 
     → RequestIs frontends s (record {
       codes = a.codes;
       spans = a.spans;
-      refusal = a.refusal;
+      refusal = Passed;
       cseq = c;
       method = m;
       stream = a.stream;
@@ -181,7 +217,7 @@ pub request_passed : {frontends : ℕ} {s : List ℕ} {l : Lines} {c : Span} {m 
 unfolding request_refusal
 request_passed {s = s} {a = a} p e q u =
     record {
-      refusal = p.refusal;
+      refusal = sym p.passes;
       cseq = p.cseq_is;
       require = λ z. absurd (not_required z);
       require_starts = λ z. absurd (not_required z);
@@ -197,11 +233,11 @@ request_passed {s = s} {a = a} p e q u =
       starts = λ _. p.starts;
       session = λ _. e ∙ seen_session p.session;
       transport = λ _. q ∙ ap transport_of (seen_text p.transport);
-      refused = λ n. never p.pass n;
+      refused = λ n. never refl n;
     }
   where
     not_required : head_refusal s ≡ Require → ⊥
-    not_required z = let w : is_read a.refusal ≡ false = ap is_read p.refusal ∙ rw z in never p.pass w
+    not_required z = let w : is_read (request_refusal _ s) ≡ false = rw z in never (ap is_read p.passes) w
 
 -- a request past steps 3 to 5: its method, and its URI's place
 pub passed_is : (x : Refusal) → is_read x ≡ true → x ≡ Passed
@@ -224,17 +260,17 @@ passed_is NoStream e = never refl (sym e)
 
 module _ (frontends : ℕ) (s : List ℕ) {l : Lines} {c : Span} {p : Parts} (h : Headed s l c p) where
   line_is : request_line s ≡ part 0 l.line s
-  line_is = sym (h.begun.lines.line h.begun.whole).is
+  line_is = sym h.begun.lines.line.is
 
   -- a part of the request line, by its place
   method_held : part 0 p.first (part 0 l.line s) ≡ line_part 0 (request_line s)
-  method_held = (h.parts_are.method h.three).is ∙ ap (line_part 0) (sym line_is)
+  method_held = h.parts_are.method.is ∙ ap (line_part 0) (sym line_is)
 
   uri_starts : p.first + 1 ≡ uri_start s
-  uri_starts = ap (λ n. n + 1) (holds_length (h.parts_are.method h.three) ∙ zero-add _ ∙ ap (λ l. length (line_part 0 l)) (sym line_is))
+  uri_starts = ap (λ n. n + 1) (holds_length h.parts_are.method ∙ zero-add _ ∙ ap (λ l. length (line_part 0 l)) (sym line_is))
 
   uri_held : part (p.first + 1) p.second (part 0 l.line s) ≡ uri_of s
-  uri_held = (h.parts_are.uri h.three).is ∙ ap (line_part 1) (sym line_is)
+  uri_held = h.parts_are.uri.is ∙ ap (line_part 1) (sym line_is)
 
   pub method_read : {m : Method} → m ≡ method_in (part 0 p.first (part 0 l.line s)) → m ≡ method_of s
   unfolding method_of
@@ -244,9 +280,9 @@ module _ (frontends : ℕ) (s : List ℕ) {l : Lines} {c : Span} {p : Parts} (h 
   unfolding head_refusal
   head_is =
       rw (
-        sym h.begun.lines.sound ∙ h.begun.whole,
+        h.begun.lines.whole,
         h.begun.some,
-        ap is_three line_is ∙ sym h.parts_are.sound ∙ h.three,
+        ap is_three line_is ∙ h.parts_are.three,
         h.once,
         h.version,
         h.free,
@@ -255,19 +291,23 @@ module _ (frontends : ℕ) (s : List ℕ) {l : Lines} {c : Span} {p : Parts} (h 
   pub request_unmethoded : {m : Method} → m ≡ method_of s → {t : Bool} → t ≡ is_other m → t ≡ true → head_refusal s ≡ OtherMethod
   request_unmethoded e q y = let o : is_other (method_of s) ≡ true = ap is_other (sym e) ∙ sym q ∙ y in rw (head_is, o)
 
-  module _ {m : Method} (e : m ≡ method_of s) {t : Bool} (q : t ≡ is_other m) (n : t ≡ false) {a : Aim} (i : AimIs frontends m (part (p.first + 1) p.second (part 0 l.line s)) a) where
-    own : AimIs frontends (method_of s) (uri_of s) a
-    own = rw (e, uri_held) at i
-
+  module _ {m : Method} (e : m ≡ method_of s) {t : Bool} (q : t ≡ is_other m) (n : t ≡ false) where
     passes : head_refusal s ≡ Passed
     passes = let o : is_other (method_of s) ≡ false = ap is_other (sym e) ∙ sym q ∙ n in head_is ∙ rw o
 
-    pub request_unrequired : head_refusal s ≡ Require → ⊥
-    request_unrequired z = let w : ◌≡◌ {A = ℕ} 0 5 = ap (λ r. (reading_rule r).0) (sym passes ∙ z) in omega arith
-
-    pub request_aimed : a.refusal ≡ request_refusal frontends s
+    uri_aimed : uri_refusal frontends m (part (p.first + 1) p.second (part 0 l.line s)) ≡ request_refusal frontends s
     unfolding request_refusal
-    request_aimed = own.refusal ∙ rw passes
+    uri_aimed = rw (passes, e, uri_held)
+
+    -- refused by one of steps 7 to 10
+    pub request_unaimed : {x : Refusal} {r : Request} → Refuses frontends m (part (p.first + 1) p.second (part 0 l.line s)) x → r ≡ refused_request x c nowhere → RequestIs frontends s r
+    request_unaimed f d =
+        request_refused f.1
+        (λ z. let w : ◌≡◌ {A = ℕ} 0 5 = ap (λ r. (reading_rule r).0) (sym passes ∙ z) in absurd (omega arith))
+        (λ _. refl)
+        (f.0 ∙ uri_aimed)
+        h.begun.cseq_is
+        d
 
     moved : {ys : List ℕ} {j k : ℕ} → Holds (uri_of s) ys j k → Holds s ys (p.first + 1 + j) (p.first + 1 + k)
     moved {ys} {j} {k} x =
@@ -276,86 +316,92 @@ module _ (frontends : ℕ) (s : List ℕ) {l : Lines} {c : Span} {p : Parts} (h 
         (holds_inside 0 l.line s refl (omega arith) h.line_in
         (holds_inside (p.first + 1) p.second (part 0 l.line s) (sym uri_held) (omega (arith, h.first_in)) (omega (arith, h.second_in)) x))
 
-    pub request_passing : is_read a.refusal ≡ true → Passing frontends s l c m (p.first + 1) a
-    request_passing y =
-        let z : a.refusal ≡ Passed = passed_is a.refusal y in
+    pub request_passing : {a : Aim} → AimIs frontends m (part (p.first + 1) p.second (part 0 l.line s)) a → Passing frontends s l c m (p.first + 1) a
+    request_passing {a} i =
+        let own : AimIs frontends m (uri_of s) a = rw uri_held at i in
         record {
-          refusal = request_aimed;
-          pass = y;
+          passes = sym uri_aimed ∙ i.passes;
           cseq_is = h.begun.cseq_is;
           method_is = e;
-          stream = own.stream z;
-          host = moved (own.host z);
-          query = moved (own.query z);
-          codes = own.codes z;
-          spans = own.spans z;
+          stream = own.stream;
+          host = moved own.host;
+          query = moved own.query;
+          codes = own.codes;
+          spans = own.spans;
           from_is = uri_starts;
-          host_starts = own.host_starts z;
-          query_starts = own.query_starts z;
-          starts = own.starts z;
-          session = h.begun.lines.headers h.begun.whole 1 (omega arith);
-          transport = h.begun.lines.headers h.begun.whole 2 (omega arith);
+          host_starts = own.host_starts;
+          query_starts = own.query_starts;
+          starts = own.starts;
+          session = h.begun.lines.headers 1 (omega arith);
+          transport = h.begun.lines.headers 2 (omega arith);
         }
 
 -- FROM THE LINES ON
 module _ (s : List ℕ) {l : Lines} {c : Span} (b : Begun s l c) where
   seen_of : (k : ℕ) → k < 5 → SeenIs s (values_of k (header_lines s)) (get_or l.headers k unseen)
-  seen_of = b.lines.headers b.whole
+  seen_of = b.lines.headers
 
   pub line_within : l.line ≤ length s
-  line_within = (b.lines.line b.whole).within
+  line_within = b.lines.line.within
 
   own_line : request_line s ≡ part 0 l.line s
-  own_line = sym (b.lines.line b.whole).is
+  own_line = sym b.lines.line.is
 
-  begun_is : is_laid_out s ≡ true
-  begun_is = sym b.lines.sound ∙ b.whole
+  pub request_unparted : is_three (part 0 l.line s) ≡ false → head_refusal s ≡ RequestLine
+  unfolding head_refusal
+  request_unparted n = rw (b.lines.whole, b.some, ap is_three own_line ∙ n)
 
   module _ {p : Parts} (i : PartsAre (part 0 l.line s) p) where
-    three_is : is_three (request_line s) ≡ p.sound
-    three_is = ap is_three own_line ∙ sym i.sound
+    three_is : is_three (request_line s) ≡ true
+    three_is = ap is_three own_line ∙ i.three
 
-    pub request_unparted : p.sound ≡ false → head_refusal s ≡ RequestLine
-    unfolding head_refusal
-    request_unparted n = rw (begun_is, b.some, three_is ∙ n)
-
-    module _ (y : p.sound ≡ true) {t : Bool} (w : t ≡ are_twice l.headers) where
+    module _ {t : Bool} (w : t ≡ are_twice l.headers) where
       twice_is : are_repeated s ≡ t
       twice_is = sym (w ∙ rw (seen_twice (seen_of 1 (omega arith)), seen_twice (seen_of 2 (omega arith)), seen_twice (seen_of 3 (omega arith)), seen_twice (seen_of 4 (omega arith))))
 
       pub request_twice : t ≡ true → head_refusal s ≡ HeaderTwice
       unfolding head_refusal
-      request_twice z = rw (begun_is, b.some, three_is ∙ y, twice_is ∙ z)
+      request_twice z = rw (b.lines.whole, b.some, three_is, twice_is ∙ z)
 
       module _ (n : t ≡ false) {v : Bool} (u : v ≡ are_alike Counts (part (p.second + 1) (length (part 0 l.line s)) (part 0 l.line s)) (text "RTSP/1.0")) where
         version_is : is_version s ≡ v
-        version_is = sym (u ∙ ap (λ x. are_alike Counts x (text "RTSP/1.0")) ((i.version y).is ∙ ap (line_part 2) (sym own_line)))
+        version_is = sym (u ∙ ap (λ x. are_alike Counts x (text "RTSP/1.0")) (i.version.is ∙ ap (line_part 2) (sym own_line)))
 
         pub request_unversioned : v ≡ false → head_refusal s ≡ Version
         unfolding head_refusal
-        request_unversioned z = rw (begun_is, b.some, three_is ∙ y, twice_is ∙ n, version_is ∙ z)
+        request_unversioned z = rw (b.lines.whole, b.some, three_is, twice_is ∙ n, version_is ∙ z)
 
         module _ (a : v ≡ true) where
-          required_is : 0 < (get_or l.headers 3 unseen).times → head_refusal s ≡ Require
+          -- a Require header was sent
+          sent_is : ltb 0 (length (values_of 3 (header_lines s))) ≡ ltb 0 (times_of (get_or l.headers 3 unseen))
+          sent_is = sym (seen_sent (seen_of 3 (omega arith)))
+
+          required_is : ltb 0 (times_of (get_or l.headers 3 unseen)) ≡ true → head_refusal s ≡ Require
           unfolding head_refusal
-          required_is h = rw (begun_is, b.some, three_is ∙ y, twice_is ∙ n, version_is ∙ a, sym (seen_sent (seen_of 3 (omega arith))) ∙ lt-ltb 0 (get_or l.headers 3 unseen).times h)
+          required_is y = rw (b.lines.whole, b.some, three_is, twice_is ∙ n, version_is ∙ a, sent_is ∙ y)
 
-          pub request_required : {frontends : ℕ} {r : Request} → 0 < (get_or l.headers 3 unseen).times
-              → r ≡ refused_request Require c (record { start = (get_or l.headers 3 unseen).start; end = (get_or l.headers 3 unseen).end }) → RequestIs frontends s r
+          pub request_required : {frontends : ℕ} {r : Request} {place : Span} → first_seen (get_or l.headers 3 unseen) ≡ Some place → r ≡ refused_request Require c place → RequestIs frontends s r
           unfolding request_refusal
-          request_required h q = request_refused refl (λ _. ((seen_of 3 (omega arith)).value, b.lines.starts b.whole 3 (omega arith))) (λ n. absurd (n (required_is h))) (rw (required_is h)) b.cseq_is q
+          request_required {place = place} h q =
+              let y : ltb 0 (times_of (get_or l.headers 3 unseen)) ≡ true = (first_there (get_or l.headers 3 unseen) h).0 in
+              let z : place_of (get_or l.headers 3 unseen) ≡ place = (first_there (get_or l.headers 3 unseen) h).1 in
+              request_refused refl
+              (λ _. (rw z at (seen_of 3 (omega arith)).value, rw z at (b.lines.starts 3 (omega arith))))
+              (λ n. absurd (n (required_is y)))
+              (rw (required_is y))
+              b.cseq_is
+              q
 
-          pub request_headed : (get_or l.headers 3 unseen).times ≤ 0 → Headed s l c p
+          pub request_headed : first_seen (get_or l.headers 3 unseen) ≡ None → Headed s l c p
           request_headed h =
-              let m = i.uri y in
+              let m = i.uri in
               let k : length (part 0 l.line s) ≡ l.line - 0 = part_length 0 l.line s line_within in
               record {
                 begun = b;
                 parts_are = i;
-                three = y;
                 once = twice_is ∙ n;
                 version = version_is ∙ a;
-                free = sym (seen_sent (seen_of 3 (omega arith))) ∙ le-ltb 0 (get_or l.headers 3 unseen).times h;
+                free = sent_is ∙ first_none (get_or l.headers 3 unseen) h;
                 line_in = line_within;
                 first_in = omega (arith, m.order);
                 second_in = omega (arith, m.within);

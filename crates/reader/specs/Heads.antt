@@ -7,7 +7,7 @@ use Rattle.digits.specs.Reading.{read_hex8}
 use Rattle.digits.specs.declared.Read.TheVariants.{Value as Number}
 use Rattle.lines.specs.Lines.{is_laid_out, header_lines, request_line}
 use Rattle.lines.specs.Headers.{values_of}
-use Rattle.lines.specs.Laid.{first_value, unseen, SeenIs, LinesAre, value_start}
+use Rattle.lines.specs.Laid.{first_value, times_of, place_of, unseen, SeenIs, LinesAre, value_start}
 use Rattle.lines.specs.declared.Seen.{Seen}
 use Rattle.lines.specs.declared.Lines.{Lines}
 use Rattle.target.specs.Steps.{PartsAre}
@@ -60,13 +60,17 @@ abbrev pub is_version : List ℕ → Bool
 is_version s = are_alike Counts (line_part 2 (request_line s)) (text "RTSP/1.0")
 
 abbrev pub head_text : List ℕ → Seen → List ℕ
-head_text s seen = part seen.start seen.end s
+head_text s seen = part (place_of seen).start (place_of seen).end s
+
+-- what was seen stands in the request
+abbrev pub StandsIn : List ℕ → Seen → Type 0
+StandsIn s seen = ((place_of seen).start ≤ (place_of seen).end) × ((place_of seen).end ≤ length s)
 
 -- what was seen of a whole layout's CSeq headers
 pub record CseqSeen (s : List ℕ) (seen : Seen) : Type 0 where
   pub whole : is_laid_out s ≡ true
   pub values : SeenIs s (values_of 0 (header_lines s)) seen
-  pub starts : seen.start ≡ value_start 0 s
+  pub starts : (place_of seen).start ≡ value_start 0 s
 
 -- order 2: where the digits of its CSeq stand in the request's bytes; nowhere, if it has none
 abbrev pub cseq_place : List ℕ → Span
@@ -77,10 +81,10 @@ pub record CseqIs (s : List ℕ) (r : Span) : Type 0 where
   pub held : Holds s (cseq_of s) r.start r.end
 
 abbrev pub session_seen : List ℕ → Seen → Session
-session_seen s seen = cond (eqb seen.times 0) Absent (session_in (head_text s seen))
+session_seen s seen = cond (eqb (times_of seen) 0) Absent (session_in (head_text s seen))
 
 abbrev pub is_repeated : List Seen → ℕ → Bool
-is_repeated headers k = ltb 1 (get_or headers k unseen).times
+is_repeated headers k = ltb 1 (times_of (get_or headers k unseen))
 
 abbrev pub are_twice : List Seen → Bool
 are_twice headers = is_repeated headers 1 || is_repeated headers 2 || is_repeated headers 3 || is_repeated headers 4
@@ -91,7 +95,6 @@ are_repeated s = is_twice 1 s || is_twice 2 s || is_twice 3 s || is_twice 4 s
 -- a request whose layout is whole and whose CSeq was read: past steps 1 and 2
 pub record Begun (s : List ℕ) (l : Lines) (cseq : Span) : Type 0 where
   pub lines : LinesAre s l
-  pub whole : l.sound ≡ true
   pub cseq_is : CseqIs s cseq
   pub some : is_empty (cseq_of s) ≡ false
 
@@ -99,7 +102,6 @@ pub record Begun (s : List ℕ) (l : Lines) (cseq : Span) : Type 0 where
 pub record Headed (s : List ℕ) (l : Lines) (cseq : Span) (parts : Parts) : Type 0 where
   pub begun : Begun s l cseq
   pub parts_are : PartsAre (part 0 l.line s) parts
-  pub three : parts.sound ≡ true
   pub once : are_repeated s ≡ false
   pub version : is_version s ≡ true
   pub free : ltb 0 (length (values_of 3 (header_lines s))) ≡ false
@@ -109,8 +111,7 @@ pub record Headed (s : List ℕ) (l : Lines) (cseq : Span) (parts : Parts) : Typ
 
 -- and that nothing refuses: what it asks
 pub record Passing (frontends : ℕ) (s : List ℕ) (l : Lines) (cseq : Span) (method : Method) (from : ℕ) (a : Aim) : Type 0 where
-  pub refusal : a.refusal ≡ request_refusal frontends s
-  pub pass : is_read a.refusal ≡ true
+  pub passes : request_refusal frontends s ≡ Passed
   pub cseq_is : CseqIs s cseq
   pub method_is : method ≡ method_of s
   pub stream : Number a.stream ≡ stream_named (uri_of s)

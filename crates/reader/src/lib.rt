@@ -5,12 +5,14 @@
 
 mod fields;
 
-ghost use Rattle.std.specs.Prelude.{◌≡◌, ◌≤◌, length};
-ghost use Rattle.reader.specs.Heads.{CseqSeen, CseqIs, session_seen, are_twice, Begun, Headed, Passing, refused_request, RequestIs, is_other, method_in};
+ghost use Rattle.std.specs.Prelude.{◌≡◌, ltb};
+ghost use Rattle.lines.specs.Laid.{times_of};
+ghost use Rattle.reader.specs.Fields.{transport_of};
+ghost use Rattle.reader.specs.Heads.{CseqSeen, CseqIs, StandsIn, head_text, session_seen, are_twice, Begun, Headed, Passing, refused_request, RequestIs, is_other, method_in};
 
 use aim::{Aim, Method};
 pub use fields::{Session, Transport};
-use lines::{Lines, Seen};
+use lines::{Lines, Name, Seen};
 use refusals::Refusal;
 use scan::{Case, Span};
 use target::Parts;
@@ -55,35 +57,50 @@ fn cseq_in(s: &[u8], seen: Seen) -> Span
     requires { CseqSeen s.now seen }
     ensures { CseqIs s.now result }
 {
-    if seen.times != 1 {
+    let Seen::Once(value) = seen else {
         return Span { start: 0, end: 0 };
-    }
-    let value = Span {
-        start: seen.start,
-        end: seen.end,
     };
     digits::digits_at(10, s, value, 10, 4294967295)
 }
 
 fn session_at(s: &[u8], seen: Seen) -> Session
-    requires { (seen.start ≤ seen.end) × (seen.end ≤ length s.now) }
+    requires { StandsIn s.now seen }
     ensures { result ≡ session_seen s.now seen }
 {
-    if seen.times == 0 {
+    let Some(value) = seen.first() else {
         return Session::Absent;
-    }
-    let start = seen.start;
-    let end = seen.end;
+    };
+    let start = value.start;
+    let end = value.end;
     fields::session_in(&s[start..end])
 }
 
-fn are_twice(headers: [Seen; 5]) -> bool
-    ensures { result ≡ are_twice headers }
+fn transport_at(s: &[u8], seen: Seen) -> Transport
+    requires { StandsIn s.now seen }
+    ensures { result ≡ transport_of (head_text s.now seen) }
 {
-    (1 < headers[1].times)
-        | (1 < headers[2].times)
-        | (1 < headers[3].times)
-        | (1 < headers[4].times)
+    let Some(value) = seen.first() else {
+        return Transport::Other;
+    };
+    let start = value.start;
+    let end = value.end;
+    fields::transport_in(&s[start..end])
+}
+
+fn is_again(seen: Seen) -> bool
+    ensures { result ≡ ltb 1 (times_of seen) }
+{
+    matches!(seen, Seen::Again(_))
+}
+
+// Whether a known header other than CSeq was sent twice.
+fn are_twice(l: &Lines) -> bool
+    ensures { result ≡ are_twice l.now.headers }
+{
+    is_again(l.seen(Name::Session))
+        | is_again(l.seen(Name::Transport))
+        | is_again(l.seen(Name::Require))
+        | is_again(l.seen(Name::Accept))
 }
 
 // The method that a text is; its case counts.
@@ -120,31 +137,26 @@ fn is_other(method: Method) -> bool
 // What a request asks that nothing refuses; its URI starts at `from`.
 fn passed(
     s: &[u8],
-    l: Lines,
+    l: &Lines,
     cseq: Span,
     method: Method,
     from: usize,
     a: Aim,
     frontends: u8,
 ) -> Request
-    requires { Passing frontends s.now l cseq method from a }
+    requires { Passing frontends s.now l.now cseq method from a }
     ensures { RequestIs frontends s.now result }
 {
-    let headers = l.headers;
-    let session = session_at(s, headers[1]);
-    let sent = headers[2];
-    let start = sent.start;
-    let end = sent.end;
-    let transport = fields::transport_in(&s[start..end]);
+    let session = session_at(s, l.seen(Name::Session));
+    let transport = transport_at(s, l.seen(Name::Transport));
     let codes = a.codes;
     let spans = a.spans;
-    let refusal = a.refusal;
     let host = a.host;
     let query = a.query;
     Request {
         codes,
         spans,
-        refusal,
+        refusal: Refusal::Passed,
         cseq,
         method,
         stream: a.stream,
@@ -163,8 +175,8 @@ fn passed(
 }
 
 // Steps 6 to 10.
-fn read_method(s: &[u8], l: Lines, cseq: Span, parts: Parts, frontends: u8) -> Request
-    requires { Headed s.now l cseq parts }
+fn read_method(s: &[u8], l: &Lines, cseq: Span, parts: Parts, frontends: u8) -> Request
+    requires { Headed s.now l.now cseq parts }
     ensures { RequestIs frontends s.now result }
 {
     let end = l.line;
@@ -176,39 +188,30 @@ fn read_method(s: &[u8], l: Lines, cseq: Span, parts: Parts, frontends: u8) -> R
     }
     let from = space + 1;
     let to = parts.second;
-    let a = aim::read_aim(method, &line[from..to], frontends);
-    let refusal = a.refusal;
-    if !refusals::is_passed(refusal) {
-        return refuse(refusal, cseq, Span { start: 0, end: 0 });
+    match aim::read_aim(method, &line[from..to], frontends) {
+        Ok(a) => passed(s, l, cseq, method, from, a, frontends),
+        Err(refusal) => refuse(refusal, cseq, Span { start: 0, end: 0 }),
     }
-    passed(s, l, cseq, method, from, a, frontends)
 }
 
 // Steps 3 to 10.
-fn read_line(s: &[u8], l: Lines, cseq: Span, frontends: u8) -> Request
-    requires { Begun s.now l cseq }
+fn read_line(s: &[u8], l: &Lines, cseq: Span, frontends: u8) -> Request
+    requires { Begun s.now l.now cseq }
     ensures { RequestIs frontends s.now result }
 {
     let end = l.line;
-    let headers = l.headers;
     let line = &s[0..end];
-    let parts = target::request_line(line);
-    if !parts.sound {
+    let Some(parts) = target::request_line(line) else {
         return refuse(Refusal::RequestLine, cseq, Span { start: 0, end: 0 });
-    }
-    if are_twice(headers) {
+    };
+    if are_twice(l) {
         return refuse(Refusal::HeaderTwice, cseq, Span { start: 0, end: 0 });
     }
     let version = parts.second + 1;
     if !scan::are_alike(&line[version..], b"RTSP/1.0", Case::Counts) {
         return refuse(Refusal::Version, cseq, Span { start: 0, end: 0 });
     }
-    let required = headers[3];
-    if 0 < required.times {
-        let value = Span {
-            start: required.start,
-            end: required.end,
-        };
+    if let Some(value) = l.seen(Name::Require).first() {
         return refuse(Refusal::Require, cseq, value);
     }
     read_method(s, l, cseq, parts, frontends)
@@ -218,18 +221,16 @@ fn read_line(s: &[u8], l: Lines, cseq: Span, frontends: u8) -> Request
 pub fn read(s: &[u8], frontends: u8) -> Request
     ensures { RequestIs frontends s.now result }
 {
-    let l = lines::read_lines(s);
-    if !l.sound {
+    let Some(l) = lines::read_lines(s) else {
         return refuse(
             Refusal::Layout,
             Span { start: 0, end: 0 },
             Span { start: 0, end: 0 },
         );
-    }
-    let headers = l.headers;
-    let cseq = cseq_in(s, headers[0]);
+    };
+    let cseq = cseq_in(s, l.seen(Name::CSeq));
     if cseq.end <= cseq.start {
         return refuse(Refusal::CSeq, cseq, Span { start: 0, end: 0 });
     }
-    read_line(s, l, cseq, frontends)
+    read_line(s, &l, cseq, frontends)
 }
