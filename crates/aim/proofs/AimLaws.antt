@@ -97,6 +97,7 @@ module _ (frontends : ℕ) (method : Method) (u : List ℕ) {t : Uri} (r : Reach
         stream = r.is.stream;
         host = r.is.host;
         query = rw (unqueried u (asks frontends method u r)) (holds_nothing u);
+        thirteen = (refl, refl);
         codes = λ a. rw (asks frontends method u r, all_same {A = ℕ} 13 a 0, value_none frontends a);
         spans = λ a. rw (unqueried u (asks frontends method u r), asks frontends method u r, all_same 13 a nowhere) (holds_nothing []);
         host_starts = r.is.starts;
@@ -153,6 +154,7 @@ module _ (frontends : ℕ) (method : Method) (u : List ℕ) {t : Uri} {start : �
             stream = r.is.stream;
             host = r.is.host;
             query = query_held;
+            thirteen = own.thirteen;
             codes = λ a. rw (asks frontends method u r) (own.codes a);
             spans = λ a. rw (asks frontends method u r) (own.spans a);
             host_starts = r.is.starts;

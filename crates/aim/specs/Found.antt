@@ -151,6 +151,7 @@ pub record AimIs (frontends : ℕ) (method : Method) (u : List ℕ) (r : Aim) : 
   pub stream : Number r.stream ≡ stream_named u
   pub host : Holds u (host_of u) r.host.start r.host.end
   pub query : Holds u (query_of u) r.query.start r.query.end
+  pub thirteen : (length r.codes ≡ 13) × (length r.spans ≡ 13)
   pub codes : (a : ℕ) → get_or r.codes a 0 ≡ code_in frontends a (parts_of u)
   pub spans : (a : ℕ) → Holds (query_of u) (text_in a (parts_of u)) (get_or r.spans a nowhere).start (get_or r.spans a nowhere).end
   pub host_starts : r.host.start ≡ 7

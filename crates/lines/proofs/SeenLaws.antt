@@ -216,10 +216,10 @@ module _ {s : List ℕ} {ls : List (List ℕ)} {from p e : ℕ} {hs : List Seen}
             }
 
 -- the header lines from place p on, at the last of them
-pub headers_whole : {s : List ℕ} {line : ℕ} {hs : List Seen} → are_headers (lines (drop (line + 2) s)) ≡ true
+pub headers_whole : {s : List ℕ} {line : ℕ} {hs : List Seen} → length hs ≡ 5 → are_headers (lines (drop (line + 2) s)) ≡ true
     → ((k : ℕ) → k < 5 → SeenIs s (values_of k (until_empty (lines (drop (line + 2) s)))) (get_or hs k unseen))
     → ((k : ℕ) → k < 5 → (place_of (get_or hs k unseen)).start ≡ first_start k (line + 2) (until_empty (lines (drop (line + 2) s)))) → HeadersAre s line (record { headers = hs; line = line })
-headers_whole w h b = record { whole = w; ended = refl; headers = h; starts = b }
+headers_whole f w h b = record { whole = w; ended = refl; five = f; headers = h; starts = b }
 
 -- THE WHOLE REQUEST
 until_empty_law : (ls : List (List ℕ)) → take (first is_empty ls) ls ≡ until_empty ls
@@ -254,6 +254,7 @@ module _ (s : List ℕ) {e : ℕ} (short : length s ≤ 2048) (f : FirstFrom (in
         record {
           whole = laid_alone z ∙ eq-eqb 2 (length s) (sym l);
           line = rw (last, z) (record { order = omega arith; within = omega arith; is = refl });
+          five = refl;
           headers = λ k _. rw (last, all_same 5 k unseen) (unseen_is s);
           starts = λ k _. rw (last, all_same 5 k unseen);
         }
@@ -278,6 +279,7 @@ module _ (s : List ℕ) {e : ℕ} (short : length s ≤ 2048) (f : FirstFrom (in
           record {
             whole = whole_is ∙ h.whole;
             line = rw (turn, h.ended) (record { order = omega arith; within = omega arith; is = refl });
+            five = h.five;
             headers = λ k b. rw (turn, until_empty_law (lines (drop (e + 2) s))) (h.headers k b);
             starts = λ k b. rw (turn, long, until_empty_law (lines (drop (e + 2) s))) (h.starts k b);
           }

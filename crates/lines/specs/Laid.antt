@@ -145,6 +145,7 @@ LineIs s (Some end) = FirstOf (in_class NotText) s end × (is_pair_at s end ≡ 
 pub record HeadersAre (s : List ℕ) (line : ℕ) (r : Lines) : Type 0 where
   pub whole : are_headers (lines (drop (line + 2) s)) ≡ true
   pub ended : r.line ≡ line
+  pub five : length r.headers ≡ 5
   pub headers : (k : ℕ) → k < 5 → SeenIs s (values_of k (until_empty (lines (drop (line + 2) s)))) (get_or r.headers k unseen)
   pub starts : (k : ℕ) → k < 5 → (place_of (get_or r.headers k unseen)).start ≡ first_start k (line + 2) (until_empty (lines (drop (line + 2) s)))
 
@@ -156,5 +157,6 @@ value_start k s = first_start k (length (request_line s) + 2) (header_lines s)
 pub record LinesAre (s : List ℕ) (r : Lines) : Type 0 where
   pub whole : is_laid_out s ≡ true
   pub line : Holds s (request_line s) 0 r.line
+  pub five : length r.headers ≡ 5
   pub headers : (k : ℕ) → k < 5 → SeenIs s (values_of k (header_lines s)) (get_or r.headers k unseen)
   pub starts : (k : ℕ) → k < 5 → (place_of (get_or r.headers k unseen)).start ≡ value_start k s

@@ -17,7 +17,7 @@ returns-in_err-end c = let f = line_lost c.args.s.now c.loop-end.from c.loop-end
 pub returns-then-end-from : goal.returns-then-end-from
 returns-then-end-from c = let f = line_found c.args.s.now c.loop-end.from c.loop-end.invariant.inside c.in_ok-end.ensures in
     let n = noting_end c.loop-end.invariant f.0 f.1 refl c.if-end-from.true in
-    rw c.then_some.ensures (by_some _ _ _ _ (λ y. headers_whole (n.0 ∙ y) n.1 n.2) (λ z. n.0 ∙ z))
+    rw c.then_some.ensures (by_some _ _ _ _ (λ y. headers_whole c.loop-end.invariant.five (n.0 ∙ y) n.1 n.2) (λ z. n.0 ∙ z))
 
 pub returns-in_err-name : goal.returns-in_err-name
 returns-in_err-name c = let f = line_found c.args.s.now c.loop-end.from c.loop-end.invariant.inside c.in_ok-end.ensures in
