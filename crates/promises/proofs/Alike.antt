@@ -1,11 +1,11 @@
 -- Contracts that are records: two values that meet one are equal. Assumes nothing.
 use mathlib.Core.Path.{◌≡◌, refl, sym, ap, ◌∙◌}
-use mathlib.Core.Bool.{true}
+use mathlib.Core.Bool.{true, false}
 use mathlib.Core.List.{List}
 use Prim.Native.Nat.{ℕ, ◌+◌, ◌<◌}
 use native.Mathlib.Omega.{arith}
 use lib.Dec.{eqb}
-use lib.ListN.{length}
+use lib.ListN.{length, get_or}
 use lib.Seq.{ext_get_or}
 use borrow.Author.Tests.{eqb-false}
 use Rattle.scan.specs.Found.{Holds, nowhere, Trimmed}
@@ -13,15 +13,19 @@ use Rattle.scan.specs.declared.Span.{Span}
 use Rattle.scan.proofs.Bools.{never, Case, is, isnt, case}
 use Rattle.scan.proofs.Parts.{holds_length}
 use Rattle.scan.proofs.Trims.{trimmed_one}
-use Rattle.lines.specs.Laid.{SeenIs, LinesAre, unseen}
+use Rattle.std.specs.Prelude.{Option, Some, None, MatchOption, Result, Ok, Err, MatchResult}
+use Rattle.lines.specs.Lines.{is_laid_out}
+use Rattle.lines.specs.Laid.{SeenIs, LinesAre, unseen, times_of, place_of}
 use Rattle.lines.specs.declared.Seen.{Seen}
+use Rattle.lines.specs.declared.Seen.TheVariants.{Never, Once, Again}
 use Rattle.lines.specs.declared.Lines.{Lines}
-use Rattle.target.specs.Line.{line_part}
+use Rattle.target.specs.Line.{is_three, line_part}
+use Rattle.target.specs.Uri.{is_uri}
 use Rattle.target.specs.Steps.{PartsAre, UriIs}
 use Rattle.target.specs.declared.Parts.{Parts}
 use Rattle.target.specs.declared.Uri.{Uri}
 use Rattle.aim.specs.Query.{code_from}
-use Rattle.aim.specs.Found.{AimIs}
+use Rattle.aim.specs.Found.{AimIs, Refuses}
 use Rattle.refusals.specs.Refusals.{is_read, reading_rule}
 use Rattle.aim.specs.declared.Aim.{Aim}
 use Rattle.aim.specs.declared.Method.{Method as Methods}
@@ -43,86 +47,82 @@ span_same {x = x} {y = y} a p q =
 pub trimmed_same : (s : List ℕ) (x y : Span) → Trimmed s x → Trimmed s y → x ≡ y
 trimmed_same s x y p q = let e = trimmed_one s x y p q in λ i. record { start = e.0 i; end = e.1 i }
 
+-- two values that may be missing: where one is, so is the other, and they are equal
+option_same : {A P : Type 0} (Q : A → Type 0) (x y : Option A) → ((a : A) → Q a → P → ⊥) → ((a b : A) → Q a → Q b → a ≡ b) → MatchOption x P Q → MatchOption y P Q → x ≡ y
+option_same Q None None n e p q = refl
+option_same Q None (Some b) n e p q = absurd (n b q p)
+option_same Q (Some a) None n e p q = absurd (n a p q)
+option_same Q (Some a) (Some b) n e p q = ap Some (e a b p q)
+
 -- THE LINES OF A REQUEST
-pub lines_same : (s : List ℕ) (x y : Lines) → LinesAre s x → LinesAre s y → length x.headers ≡ 5 → length y.headers ≡ 5 → x ≡ y
-lines_same s x y p q m n = by (case x.sound)
+seen_same : {s : List ℕ} {vs : List (List ℕ)} (v w : Seen) → (place_of v).start ≡ (place_of w).start → SeenIs s vs v → SeenIs s vs w → v ≡ w
+seen_same {s} {vs} v w a f g = by v w (f.times ∙ sym g.times) (span_same a f.value g.value)
   where
-    sounds : x.sound ≡ y.sound
-    sounds = p.sound ∙ sym q.sound
+    by : (v w : Seen) → times_of v ≡ times_of w → place_of v ≡ place_of w → v ≡ w
+    by Never Never t e = refl
+    by Never (Once x) t e = absurd (omega (arith, t))
+    by Never (Again x) t e = absurd (omega (arith, t))
+    by (Once x) Never t e = absurd (omega (arith, t))
+    by (Once x) (Once y) t e = ap Once e
+    by (Once x) (Again y) t e = absurd (omega (arith, t))
+    by (Again x) Never t e = absurd (omega (arith, t))
+    by (Again x) (Once y) t e = absurd (omega (arith, t))
+    by (Again x) (Again y) t e = ap Again e
 
-    seen : {vs : List (List ℕ)} {v w : Seen} → v.start ≡ w.start → SeenIs s vs v → SeenIs s vs w → v ≡ w
-    seen {vs} {v} {w} a f g =
-        let t : v.times ≡ w.times = f.times ∙ sym g.times in
-        let j = holds_length f.value in
-        let k = holds_length g.value in
-        let e : v.end ≡ w.end = omega arith in
-        λ i. record { times = t i; start = a i; end = e i }
-
-    by : Case x.sound → x ≡ y
-    by (is e) =
-        let u : y.sound ≡ true = sym sounds ∙ e in
-        let l : x.line ≡ y.line = holds_length (p.line e) ∙ sym (holds_length (q.line u)) in
-        let h : x.headers ≡ y.headers =
-        ext_get_or unseen x.headers y.headers (m ∙ sym n)
-        (λ k b. let f : k < 5 = omega arith in seen (p.starts e k f ∙ sym (q.starts u k f)) (p.headers e k f) (q.headers u k f))
+pub lines_same : (s : List ℕ) (x y : Option Lines) → MatchOption x (is_laid_out s ≡ false) (LinesAre s) → MatchOption y (is_laid_out s ≡ false) (LinesAre s) → x ≡ y
+lines_same s x y = option_same (LinesAre s) x y (λ a p n. never p.whole n) both
+  where
+    both : (a b : Lines) → LinesAre s a → LinesAre s b → a ≡ b
+    both a b p q =
+        let l : a.line ≡ b.line = holds_length p.line ∙ sym (holds_length q.line) in
+        let h : a.headers ≡ b.headers =
+        ext_get_or unseen a.headers b.headers (p.five ∙ sym q.five)
+        (λ k d. let f : k < 5 = omega (arith, p.five) in seen_same (get_or a.headers k unseen) (get_or b.headers k unseen) (p.starts k f ∙ sym (q.starts k f)) (p.headers k f) (q.headers k f))
         in
-        λ i. record { headers = h i; sound = sounds i; line = l i }
-    by (isnt z) = p.none z ∙ sym (q.none (sym sounds ∙ z))
+        λ i. record { headers = h i; line = l i }
 
 -- THE PARTS OF A REQUEST LINE
-pub parts_same : (l : List ℕ) (x y : Parts) → PartsAre l x → PartsAre l y → x ≡ y
-parts_same l x y p q = by (case x.sound)
+pub parts_same : (l : List ℕ) (x y : Option Parts) → MatchOption x (is_three l ≡ false) (PartsAre l) → MatchOption y (is_three l ≡ false) (PartsAre l) → x ≡ y
+parts_same l x y = option_same (PartsAre l) x y (λ a p n. never p.three n) both
   where
-    sounds : x.sound ≡ y.sound
-    sounds = p.sound ∙ sym q.sound
-
-    by : Case x.sound → x ≡ y
-    by (is e) =
-        let u : y.sound ≡ true = sym sounds ∙ e in
-        let a : x.first ≡ y.first = holds_length (p.method e) ∙ sym (holds_length (q.method u)) in
-        let b : x.second ≡ y.second = holds_length (p.uri e) ∙ ap (λ k. k + 1 + length (line_part 1 l)) a ∙ sym (holds_length (q.uri u)) in
-        λ i. record { sound = sounds i; first = a i; second = b i }
-    by (isnt n) = p.broken n ∙ sym (q.broken (sym sounds ∙ n))
+    both : (a b : Parts) → PartsAre l a → PartsAre l b → a ≡ b
+    both a b p q =
+        let c : a.first ≡ b.first = holds_length p.method ∙ sym (holds_length q.method) in
+        let d : a.second ≡ b.second = holds_length p.uri ∙ ap (λ k. k + 1 + length (line_part 1 l)) c ∙ sym (holds_length q.uri) in
+        λ i. record { first = c i; second = d i }
 
 -- A URI
-pub uri_same : (u : List ℕ) (x y : Uri) → UriIs u x → UriIs u y → x ≡ y
-uri_same u x y p q = by (case x.sound)
+pub uri_same : (u : List ℕ) (x y : Option Uri) → MatchOption x (is_uri u ≡ false) (UriIs u) → MatchOption y (is_uri u ≡ false) (UriIs u) → x ≡ y
+uri_same u x y = option_same (UriIs u) x y (λ a p n. never p.form n) both
   where
-    sounds : x.sound ≡ y.sound
-    sounds = p.sound ∙ sym q.sound
+    both : (a b : Uri) → UriIs u a → UriIs u b → a ≡ b
+    both a b p q =
+        let d : a.query ≡ b.query = p.place ∙ sym q.place in
+        let e : a.stream ≡ b.stream = ap code_from (p.stream ∙ sym q.stream) in
+        let f : a.host ≡ b.host = span_same (p.starts ∙ sym q.starts) p.host q.host in
+        λ i. record { query = d i; stream = e i; host = f i }
 
-    by : Case x.sound → x ≡ y
-    by (is e) =
-        let f : y.sound ≡ true = sym sounds ∙ e in
-        let a : x.asked ≡ y.asked = p.asked e ∙ sym (q.asked f) in
-        let b : x.query ≡ y.query = p.place e ∙ sym (q.place f) in
-        let c : x.stream ≡ y.stream = ap code_from (p.stream e ∙ sym (q.stream f)) in
-        let d : x.host ≡ y.host = span_same (p.starts e ∙ sym (q.starts f)) (p.host e) (q.host f) in
-        λ i. record { sound = sounds i; asked = a i; query = b i; stream = c i; host = d i }
-    by (isnt n) = p.broken n ∙ sym (q.broken (sym sounds ∙ n))
+-- WHAT A URI ASKS
+module _ (frontends : ℕ) (m : Methods) (u : List ℕ) where
+  passes_only : {a : Aim} {e : Refusal} → AimIs frontends m u a → Refuses frontends m u e → ⊥
+  passes_only p f = never (ap is_read p.passes) (sym (ap is_read f.0) ∙ f.1)
 
--- WHAT A URI ASKS; their arrays are as long
-module _ (frontends : ℕ) (m : Methods) (u : List ℕ) (x y : Aim) (p : AimIs frontends m u x) (q : AimIs frontends m u y)
-    (n : length x.codes ≡ length y.codes) (o : length x.spans ≡ length y.spans) where
-  pub aim_same : x ≡ y
-  aim_same = by (case (is_read x.refusal))
-    where
-      refusals : x.refusal ≡ y.refusal
-      refusals = p.refusal ∙ sym q.refusal
+  both_aims : (a b : Aim) → AimIs frontends m u a → AimIs frontends m u b → a ≡ b
+  both_aims a b p q =
+      let c : a.codes ≡ b.codes = ext_get_or 0 a.codes b.codes (p.thirteen.0 ∙ sym q.thirteen.0) (λ k _. p.codes k ∙ sym (q.codes k)) in
+      let d : a.spans ≡ b.spans = ext_get_or nowhere a.spans b.spans (p.thirteen.1 ∙ sym q.thirteen.1) (λ k _. span_same (p.starts k ∙ sym (q.starts k)) (p.spans k) (q.spans k)) in
+      let e : a.stream ≡ b.stream = ap code_from (p.stream ∙ sym q.stream) in
+      let f : a.host ≡ b.host = span_same (p.host_starts ∙ sym q.host_starts) p.host q.host in
+      let g : a.query ≡ b.query = span_same (p.query_starts ∙ sym q.query_starts) p.query q.query in
+      λ i. record { codes = c i; spans = d i; stream = e i; host = f i; query = g i }
 
-      by : Case (is_read x.refusal) → x ≡ y
-      by (is t) =
-          let e : x.refusal ≡ Passed = passed_is x.refusal t in
-          let f : y.refusal ≡ Passed = sym refusals ∙ e in
-          let a : x.codes ≡ y.codes = ext_get_or 0 x.codes y.codes n (λ k _. p.codes e k ∙ sym (q.codes f k)) in
-          let b : x.spans ≡ y.spans = ext_get_or nowhere x.spans y.spans o (λ k _. span_same (p.starts e k ∙ sym (q.starts f k)) (p.spans e k) (q.spans f k)) in
-          let c : x.stream ≡ y.stream = ap code_from (p.stream e ∙ sym (q.stream f)) in
-          let d : x.host ≡ y.host = span_same (p.host_starts e ∙ sym (q.host_starts f)) (p.host e) (q.host f) in
-          let g : x.query ≡ y.query = span_same (p.query_starts e ∙ sym (q.query_starts f)) (p.query e) (q.query f) in
-          λ i. record { codes = a i; spans = b i; refusal = refusals i; stream = c i; host = d i; query = g i }
-      by (isnt z) = p.refused z ∙ rw refusals (sym (q.refused (rw refusals at z)))
+  pub aim_same : (x y : Result Aim Refusal) → MatchResult x (AimIs frontends m u) (Refuses frontends m u) → MatchResult y (AimIs frontends m u) (Refuses frontends m u) → x ≡ y
+  aim_same (Ok a) (Ok b) p q = ap Ok (both_aims a b p q)
+  aim_same (Ok a) (Err f) p q = absurd (passes_only p q)
+  aim_same (Err e) (Ok b) p q = absurd (passes_only q p)
+  aim_same (Err e) (Err f) p q = ap Err (p.0 ∙ sym q.0)
 
--- A REQUEST; the same
+-- A REQUEST; its arrays are as long
 -- the case of step 5, and no other
 required : (r : Refusal) → eqb (reading_rule r).0 5 ≡ true → r ≡ Require
 required Require e = refl

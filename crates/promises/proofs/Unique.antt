@@ -152,11 +152,14 @@ pub journal_put : Unique journal_contracts.put.ended journal.put.Reads.Post
 journal_put κs a x y v w = wrote
 
 -- LINES
-pub lines_read_lines : UniqueHeld lines_contracts.read_lines.ended lines.read_lines.Reads.Post
-lines_read_lines κs a x y v w m n i j p q =
-    let e : length x.headers ≡ 5 = search (known, i) in
-    let f : length y.headers ≡ 5 = search (known, j) in
-    (lines_same a.0.now x y p q e f, refl)
+pub lines_first : Unique lines_contracts.Seen.first.ended lines.Seen.first.Reads.Post
+lines_first κs a x y v w = same
+
+pub lines_seen : Unique lines_contracts.Lines.seen.ended lines.Lines.seen.Reads.Post
+lines_seen κs a x y v w = same
+
+pub lines_read_lines : Unique lines_contracts.read_lines.ended lines.read_lines.Reads.Post
+lines_read_lines κs a x y v w p q = (lines_same a.0.now x y p q, refl)
 
 -- TUNING
 pub tuning_attribute_of : Unique tuning_contracts.attribute_of.ended tuning.attribute_of.Reads.Post
@@ -185,13 +188,8 @@ refusals_status κs a x y v w = same
 pub refusals_is_passed : Unique refusals_contracts.is_passed.ended refusals.is_passed.Reads.Post
 refusals_is_passed κs a x y v w = same
 
-pub aim_read_aim : UniqueHeld aim_contracts.read_aim.ended aim.read_aim.Reads.Post
-aim_read_aim κs a x y v w m n i j p q =
-    let e : length x.codes ≡ 13 = search (known, i) in
-    let f : length y.codes ≡ 13 = search (known, j) in
-    let g : length x.spans ≡ 13 = search (known, i) in
-    let h : length y.spans ≡ 13 = search (known, j) in
-    (aim_same a.1.1.0 a.0 a.1.0.now x y p q (e ∙ sym f) (g ∙ sym h), refl)
+pub aim_read_aim : Unique aim_contracts.read_aim.ended aim.read_aim.Reads.Post
+aim_read_aim κs a x y v w p q = (aim_same a.1.1.0 a.0 a.1.0.now x y p q, refl)
 
 -- READER
 pub reader_read : UniqueHeld reader_contracts.read.ended reader.read.Reads.Post
