@@ -1,5 +1,5 @@
 -- What C gets of a call: a refusal's number, 0 where the call was done, and what was counted; of a record the record, or the bytes. Assumes nothing.
-use Rattle.std.specs.Prelude.{ℕ}
+use Rattle.std.specs.Prelude.{ℕ, List, replicate, Result, Ok, Err}
 use Rattle.stream.specs.declared.Stream.{Stream}
 use Rattle.table.specs.Made.{refusal_number, number_in}
 use Rattle.table.specs.declared.Outcome.{Outcome}
@@ -7,12 +7,9 @@ use Rattle.orders.specs.declared.Ordered.{Ordered as OrderOutcome}
 use Rattle.orders.specs.declared.Ordered.TheVariants.{On, Off, Refused as Unordered}
 use Rattle.door.specs.declared.turns.Reply.{Reply}
 use Rattle.door.specs.declared.turns.Ordered.{Ordered}
-use Rattle.journal.specs.Records.{record_refusal, write_of}
+use Rattle.journal.specs.Records.{record_size, record_refusal, write_of}
 use Rattle.journal.specs.declared.Record.{Record}
-use Rattle.journal.specs.declared.Reading.{Reading}
-use Rattle.journal.specs.declared.Reading.TheVariants.{Sound, Refused}
-use Rattle.journal.specs.declared.Outcome.{Outcome as Written}
-use Rattle.journal.specs.declared.Outcome.TheVariants.{Done, Unwritten}
+use Rattle.journal.specs.declared.Refusal.{Refusal}
 use Rattle.door.specs.declared.records.Found.{Found}
 use Rattle.door.specs.declared.records.Noted.{Noted}
 
@@ -27,13 +24,14 @@ ordered_as (Unordered refusal) m = record { refusal = refusal_number refusal; on
 abbrev pub no_record : Record
 no_record = record { kind = 0; cause = 0; clock = 0; session = 0; stream = 0; frontend = 0; sequence = 0 }
 
-abbrev pub read_from : Reading → Found
-read_from (Sound r) = record { refusal = 0; entry = r }
-read_from (Refused refusal) = record { refusal = record_refusal refusal; entry = no_record }
+abbrev pub read_from : Result Record Refusal → Found
+read_from (Ok r) = record { refusal = 0; entry = r }
+read_from (Err refusal) = record { refusal = record_refusal refusal; entry = no_record }
 
-abbrev pub written_number : Written → ℕ
-written_number Done = 0
-written_number (Unwritten refusal) = record_refusal refusal
+-- the bytes of a refusal are zeros
+abbrev pub written_as : Result (List ℕ) Refusal → Noted
+written_as (Ok bytes) = record { refusal = 0; bytes = bytes }
+written_as (Err refusal) = record { refusal = record_refusal refusal; bytes = replicate record_size 0 }
 
 abbrev pub write_reply : Record → Noted
-write_reply r = record { refusal = written_number (write_of r).outcome; bytes = (write_of r).bytes }
+write_reply r = written_as (write_of r)

@@ -1,9 +1,9 @@
 // The journal's records, as C gets them.
 ghost use Rattle.std.specs.Prelude.{◌≡◌};
 ghost use Rattle.journal.specs.Records.{read_at};
-ghost use Rattle.door.specs.Turns.{read_from, write_reply, written_number};
+ghost use Rattle.door.specs.Turns.{read_from, write_reply, written_as};
 
-use journal::{Outcome, Reading, Record};
+use journal::{Record, Refusal};
 
 // What reading a record gives: a refusal's number, 0 where there is none, and the record; zeros where it was refused.
 #[repr(C)]
@@ -21,22 +21,25 @@ pub struct Noted {
     pub bytes: [u8; 16],
 }
 
-fn read_from(reading: Reading) -> Found
+// The record of a refusal.
+const NO_RECORD: Record = Record {
+    kind: 0,
+    cause: 0,
+    clock: 0,
+    session: 0,
+    stream: 0,
+    frontend: 0,
+    sequence: 0,
+};
+
+fn read_from(reading: Result<Record, Refusal>) -> Found
     ensures { result ≡ read_from reading }
 {
     match reading {
-        Reading::Sound(entry) => Found { refusal: 0, entry },
-        Reading::Refused(refusal) => Found {
+        Ok(entry) => Found { refusal: 0, entry },
+        Err(refusal) => Found {
             refusal: journal::number(refusal) as u32,
-            entry: Record {
-                kind: 0,
-                cause: 0,
-                clock: 0,
-                session: 0,
-                stream: 0,
-                frontend: 0,
-                sequence: 0,
-            },
+            entry: NO_RECORD,
         },
     }
 }
@@ -47,23 +50,20 @@ pub(crate) fn read(bytes: &[u8], place: usize) -> Found
     read_from(journal::read(bytes, place))
 }
 
-fn number_in(outcome: Outcome) -> u32
-    ensures { result ≡ written_number outcome }
+fn written_as(writing: Result<[u8; 16], Refusal>) -> Noted
+    ensures { result ≡ written_as writing }
 {
-    match outcome {
-        Outcome::Done => 0,
-        Outcome::Unwritten(refusal) => journal::number(refusal) as u32,
+    match writing {
+        Ok(bytes) => Noted { refusal: 0, bytes },
+        Err(refusal) => Noted {
+            refusal: journal::number(refusal) as u32,
+            bytes: [0; 16],
+        },
     }
 }
 
 pub(crate) fn write(entry: Record) -> Noted
     ensures { result ≡ write_reply entry }
 {
-    let w = journal::write(entry);
-    let outcome = w.outcome;
-    let bytes = w.bytes;
-    Noted {
-        refusal: number_in(outcome),
-        bytes,
-    }
+    written_as(journal::write(entry))
 }

@@ -1,6 +1,7 @@
 -- THE LIFE OF A BOX, in seven statements: for every F and C in range, every first journal of C bytes and every sequence of calls that a caller may make
 -- (`Lives`, `is_call`), of the box, the journal and the history after them (`life_after`, the fold of the calls' meanings from a fresh box).
 -- Every call of a life is one that comes after others, so what holds after every sequence holds after every call. Assumes nothing.
+use Rattle.std.specs.Prelude.{Ok}
 use mathlib.Core.Path.{◌≡◌, sym, ◌∙◌, ap, subst}
 use mathlib.Core.Bool.{true, false}
 use mathlib.Core.List.{List, [], ◌∷◌, ◌++◌, map}
@@ -15,7 +16,6 @@ use Rattle.refusals.specs.declared.Refusal.TheVariants as refusal
 use Rattle.reader.specs.Request.{method_of, request_refusal}
 use Rattle.journal.specs.Records.{record_size, read_at}
 use Rattle.journal.specs.declared.Record.{Record}
-use Rattle.journal.specs.declared.Reading.TheVariants.{Sound}
 use Rattle.table.specs.Table.{any, count, is_open, open_count, session_at, is_on, owns}
 use Rattle.table.specs.Formed.{well_formed}
 use Rattle.finding.specs.Finding.{is_held}
@@ -247,7 +247,7 @@ module _ (settings : Settings) (j : List ℕ) (cs : List Call) where
 
     -- and whoever has these bytes has the history: read at each place (`journal/specs/Records.read_at`), they are its records
     pub history_is_read_back : (i : ℕ) (past : Record) → i < length x.history
-        → read_at (x.gathered ++ take x.satbox.held x.journal) i ≡ Sound (get_or x.history i past)
+        → read_at (x.gathered ++ take x.satbox.held x.journal) i ≡ Ok (get_or x.history i past)
     history_is_read_back i past l =
         let g = after_good h in
         rw collected_and_held (read_back x.history x.satbox.sequence g.recorded (after_fit h) g.sequence i past l)

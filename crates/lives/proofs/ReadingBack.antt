@@ -1,4 +1,5 @@
 -- Whoever has the bytes of a history has the history: each record is read back from its place. Assumes nothing.
+use Rattle.std.specs.Prelude.{Ok}
 use mathlib.Core.Path.{◌≡◌, refl, sym, subst}
 use mathlib.Core.Bool.{Bool, true}
 use mathlib.Core.List.{List, [], ◌∷◌, ◌++◌, append-nil}
@@ -11,7 +12,6 @@ use Rattle.scan.specs.Lists.{all, part}
 use Rattle.scan.proofs.Bools.{and_both}
 use Rattle.journal.specs.Records.{is_record, encoded, read_bytes, read_at, write_of}
 use Rattle.journal.specs.declared.Record.{Record}
-use Rattle.journal.specs.declared.Reading.TheVariants.{Sound}
 use Rattle.journal.proofs.RoundTrip.{Fitting, written_read}
 use Rattle.table.specs.declared.Settings.{Settings}
 use Rattle.table.specs.Table.{no_session, session_at}
@@ -54,12 +54,12 @@ at_place rs i d h =
     let m : i * 16 ≡ 16 * i = omega arith in
     rw (n, m) (from_place rs i d h)
 
-record_read : (r : Record) → is_record r ≡ true → Fitting r → read_bytes (encoded r) ≡ Sound r
+record_read : (r : Record) → is_record r ≡ true → Fitting r → read_bytes (encoded r) ≡ Ok r
 unfolding write_of
 record_read r e f = written_read r (encoded r) f (rw e)
 
 -- EACH RECORD IS READ BACK
-pub read_back : (rs : List Record) (next : ℕ) → all is_record rs ≡ true → all is_fit rs ≡ true → CountsOn 0 rs next → (i : ℕ) (d : Record) → i < length rs → read_at (bytes_of rs) i ≡ Sound (get_or rs i d)
+pub read_back : (rs : List Record) (next : ℕ) → all is_record rs ≡ true → all is_fit rs ≡ true → CountsOn 0 rs next → (i : ℕ) (d : Record) → i < length rs → read_at (bytes_of rs) i ≡ Ok (get_or rs i d)
 unfolding read_at
 read_back rs next records fit counts i d h =
     let r = get_or rs i d in

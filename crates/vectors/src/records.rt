@@ -1,6 +1,6 @@
 // Records written and read: document 01's example, one flawed byte at each of its places, and every limit of every field.
 use crate::out;
-use journal::{Outcome, Reading, Record};
+use journal::{Record, Refusal};
 use std::io;
 
 fn fields(rt: &impl Print, r: Record) -> io::Result<()> {
@@ -24,17 +24,19 @@ fn rest(rt: &impl Print, r: Record) -> io::Result<()> {
     out::text(rt, b"\n")
 }
 
+fn refused(rt: &impl Print, why: Refusal) -> io::Result<()> {
+    out::text(rt, b"refused ")?;
+    out::number(rt, journal::number(why) as u32)?;
+    out::text(rt, b"\n")
+}
+
 fn reading(rt: &impl Print, bytes: &[u8], place: usize) -> io::Result<()> {
     match journal::read(bytes, place) {
-        Reading::Sound(r) => {
+        Ok(r) => {
             fields(rt, r)?;
             rest(rt, r)
         }
-        Reading::Refused(why) => {
-            out::text(rt, b"refused ")?;
-            out::number(rt, journal::number(why) as u32)?;
-            out::text(rt, b"\n")
-        }
+        Err(why) => refused(rt, why),
     }
 }
 
@@ -49,16 +51,14 @@ fn shown(rt: &impl Print, bytes: [u8; 16]) -> io::Result<()> {
 }
 
 fn writing(rt: &impl Print, r: Record) -> io::Result<()> {
-    let w = journal::write(r);
-    let outcome = w.outcome;
-    let bytes = w.bytes;
-    shown(rt, bytes)?;
-    match outcome {
-        Outcome::Done => { reading(rt, &bytes, 0) }
-        Outcome::Unwritten(why) => {
-            out::text(rt, b"refused ")?;
-            out::number(rt, journal::number(why) as u32)?;
-            out::text(rt, b"\n")
+    match journal::write(r) {
+        Ok(bytes) => {
+            shown(rt, bytes)?;
+            reading(rt, &bytes, 0)
+        }
+        Err(why) => {
+            shown(rt, [0; 16])?;
+            refused(rt, why)
         }
     }
 }
@@ -81,7 +81,9 @@ fn example() -> Record {
 }
 
 fn flaws(rt: &impl Print) -> io::Result<()> {
-    let good = journal::write(example()).bytes;
+    let Ok(good) = journal::write(example()) else {
+        return Ok(());
+    };
     let mut i = 0;
     while i < 16 {
         let mut bytes = good;
