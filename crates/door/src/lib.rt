@@ -6,8 +6,9 @@ mod records;
 mod turns;
 
 ghost use Rattle.std.specs.Prelude.{◌≡◌};
+ghost use Rattle.std.specs.Result.{result_unwrap_or};
 ghost use Rattle.table.specs.Made.{made_of, number_in};
-ghost use Rattle.satbox.specs.Calls.{if_done, ticked, ticked_journal, collected, collected_into, replied, replied_into, replied_journal};
+ghost use Rattle.satbox.specs.Calls.{ticked, ticked_journal, collected, collected_into, replied, replied_into, replied_journal};
 ghost use Rattle.orders.specs.Orders.{order_of};
 ghost use Rattle.journal.specs.Records.{read_at};
 ghost use Rattle.door.specs.Turns.{read_from, write_reply, reply_of, ordered_as};
@@ -25,15 +26,15 @@ const SECOND: u32 = 4;
 
 // Makes a fresh box of the one that is lent; where that is refused, it stays.
 pub fn satbox_make(t: &mut SatBox, settings: Settings) -> u32
-    ensures { (result ≡ number_in (made_of settings).outcome)
-        × (t.new ≡ if_done (made_of settings).outcome (made_of settings).satbox t.old) }
+    ensures { (result ≡ number_in (made_of settings)) × (t.new ≡ result_unwrap_or (made_of settings) t.old) }
 {
-    let made = SatBox::fresh(settings);
-    let refusal = turns::number_in(made.outcome);
-    if refusal == 0 {
-        *t = made.satbox;
+    match SatBox::fresh(settings) {
+        Ok(satbox) => {
+            *t = satbox;
+            0
+        }
+        Err(refusal) => table::number(refusal) as u32,
     }
-    refusal
 }
 
 // Answers a request.
@@ -46,15 +47,14 @@ pub fn satbox_request(
     answer: &mut [u8],
     journal: &mut [u8],
 ) -> Reply
-    ensures { (result ≡ reply_of (replied request.now clock address draw t.old answer.old journal.old).outcome
-        (replied request.now clock address draw t.old answer.old journal.old).count)
+    ensures { (result ≡ reply_of (replied request.now clock address draw t.old answer.old journal.old).outcome)
         × (t.new ≡ (replied request.now clock address draw t.old answer.old journal.old).satbox)
         × (answer.new ≡ replied_into request.now clock address draw t.old answer.old journal.old)
         × (journal.new ≡ replied_journal request.now clock address draw t.old answer.old journal.old) }
 {
     let replied = satbox::request(*t, request, clock, address, draw, answer, journal);
     *t = replied.satbox;
-    turns::reply_of(replied.outcome, replied.count)
+    turns::reply_of(replied.outcome)
 }
 
 // Closes every session that has expired.
@@ -70,13 +70,13 @@ pub fn satbox_tick(t: &mut SatBox, clock: u32, journal: &mut [u8]) -> u32
 
 // Copies the bytes held to the front of a buffer, after which none are held.
 pub fn satbox_collect(t: &mut SatBox, journal: &[u8], buffer: &mut [u8]) -> Reply
-    ensures { (result ≡ reply_of (collected t.old journal.now buffer.old).outcome (collected t.old journal.now buffer.old).count)
+    ensures { (result ≡ reply_of (collected t.old journal.now buffer.old).outcome)
         × (t.new ≡ (collected t.old journal.now buffer.old).satbox)
         × (buffer.new ≡ collected_into t.old journal.now buffer.old) }
 {
     let collected = satbox::collect(*t, journal, buffer);
     *t = collected.satbox;
-    turns::reply_of(collected.outcome, collected.count)
+    turns::reply_of(collected.outcome)
 }
 
 // What a frontend is to be set to.

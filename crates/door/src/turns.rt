@@ -4,7 +4,7 @@ ghost use Rattle.table.specs.Made.{number_in};
 ghost use Rattle.door.specs.Turns.{reply_of, ordered_as};
 
 use stream::Stream;
-use table::Outcome;
+use table::Refusal;
 
 // A refusal's number, 0 where the call was done; and how many bytes it put into the buffer that it was lent.
 #[repr(C)]
@@ -23,21 +23,24 @@ pub struct Ordered {
     pub stream: Stream,
 }
 
-pub(crate) fn number_in(outcome: Outcome) -> u32
+pub(crate) fn number_in(outcome: Result<(), Refusal>) -> u32
     ensures { result ≡ number_in outcome }
 {
     match outcome {
-        Outcome::Done => 0,
-        Outcome::Refused(refusal) => table::number(refusal) as u32,
+        Ok(()) => 0,
+        Err(refusal) => table::number(refusal) as u32,
     }
 }
 
-pub(crate) fn reply_of(outcome: Outcome, count: u32) -> Reply
-    ensures { result ≡ reply_of outcome count }
+pub(crate) fn reply_of(outcome: Result<u32, Refusal>) -> Reply
+    ensures { result ≡ reply_of outcome }
 {
-    Reply {
-        refusal: number_in(outcome),
-        count,
+    match outcome {
+        Ok(count) => Reply { refusal: 0, count },
+        Err(refusal) => Reply {
+            refusal: table::number(refusal) as u32,
+            count: 0,
+        },
     }
 }
 

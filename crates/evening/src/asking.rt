@@ -53,10 +53,10 @@ fn send(
     lent::prepare(answer);
     let r = satbox::request(t, request, clock, address, draw, answer, journal);
     let u = r.satbox;
-    let outcome = r.outcome;
-    answered(rt, answer, r.count)?;
-    show::outcome(rt, b" ", outcome)?;
-    lent::show(rt, answer, r.count)?;
+    let count = r.outcome.unwrap_or(0);
+    answered(rt, answer, count)?;
+    show::outcome(rt, b" ", r.outcome)?;
+    lent::show(rt, answer, count)?;
     show::state(rt, u)?;
     show::records(rt, journal, t.held, u.held)?;
     Ok(u)
@@ -121,7 +121,6 @@ pub(crate) fn attempt(rt: &impl Print, t: SatBox, journal: &mut [u8]) -> io::Res
         &mut answer,
         journal,
     );
-    let outcome = r.outcome;
-    show::outcome(rt, b"  request", outcome)?;
-    lent::show(rt, &answer, r.count)
+    show::outcome(rt, b"  request", r.outcome)?;
+    lent::show(rt, &answer, r.outcome.unwrap_or(0))
 }

@@ -2,7 +2,19 @@
 use crate::{asking, fields, lent, out, show, words};
 use orders::Ordered;
 use std::io;
-use table::{SatBox, Settings};
+use stream::Stream;
+use table::{SatBox, Session, Settings};
+
+// A box of no frontend and no journal, which every call refuses.
+pub(crate) const NO_BOX: SatBox = SatBox {
+    sessions: [Session::NONE; 32],
+    streams: [Stream::NONE; 8],
+    settings: Settings::NONE,
+    held: 0,
+    clock: 0,
+    sequence: 0,
+    spare: 0,
+};
 
 // The sets that a line gives from its third number on; all four sources where it gives none.
 fn sets(line: &[u8]) -> [u8; 8] {
@@ -25,10 +37,9 @@ pub(crate) fn make(rt: &impl Print, journal: &mut [u8], line: &[u8]) -> io::Resu
         spare: 0,
         reach,
     });
-    let t = made.satbox;
-    let outcome = made.outcome;
     lent::fill(journal, lent::UNWRITTEN);
-    show::outcome(rt, b" ", outcome)?;
+    show::outcome(rt, b" ", made)?;
+    let t = made.unwrap_or(NO_BOX);
     show::state(rt, t)?;
     Ok(t)
 }
@@ -44,8 +55,7 @@ pub(crate) fn tick(
     let n = lent::at_most(journal.len(), words::number_or(line, 2, t.settings.size));
     let r = satbox::tick(t, clock, &mut journal[0..n]);
     let u = r.satbox;
-    let outcome = r.outcome;
-    show::outcome(rt, b" ", outcome)?;
+    show::outcome(rt, b" ", r.outcome)?;
     show::state(rt, u)?;
     show::records(rt, journal, t.held, u.held)?;
     Ok(u)
@@ -60,11 +70,11 @@ fn collect_into(
     lent::prepare(buffer);
     let r = satbox::collect(t, journal, buffer);
     let u = r.satbox;
-    let outcome = r.outcome;
-    show::outcome(rt, b" ", outcome)?;
-    lent::show(rt, buffer, r.count)?;
+    let count = r.outcome.unwrap_or(0);
+    show::outcome(rt, b" ", r.outcome)?;
+    lent::show(rt, buffer, count)?;
     show::state(rt, u)?;
-    show::records(rt, buffer, 0, r.count)?;
+    show::records(rt, buffer, 0, count)?;
     Ok(u)
 }
 
@@ -107,17 +117,15 @@ pub(crate) fn order(rt: &impl Print, t: SatBox, line: &[u8]) -> io::Result<SatBo
 
 fn attempt_tick(rt: &impl Print, t: SatBox, journal: &mut [u8]) -> io::Result<()> {
     let r = satbox::tick(t, 0, journal);
-    let outcome = r.outcome;
-    show::outcome(rt, b", tick", outcome)
+    show::outcome(rt, b", tick", r.outcome)
 }
 
 fn attempt_collect(rt: &impl Print, t: SatBox, journal: &[u8]) -> io::Result<()> {
     let mut buffer = [0u8; 65536];
     lent::prepare(&mut buffer);
     let r = satbox::collect(t, journal, &mut buffer);
-    let outcome = r.outcome;
-    show::outcome(rt, b", collect", outcome)?;
-    lent::show(rt, &buffer, r.count)
+    show::outcome(rt, b", collect", r.outcome)?;
+    lent::show(rt, &buffer, r.outcome.unwrap_or(0))
 }
 
 // `spoil` as `set`, for a look at what the calls say to such a table, which is then thrown away, and at what they leave of the buffers.

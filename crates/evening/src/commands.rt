@@ -2,7 +2,7 @@
 use crate::{asking, calls, fields, out, show, words};
 use scan::Case;
 use std::io;
-use table::{SatBox, Settings};
+use table::SatBox;
 
 fn show_table(rt: &impl Print, t: SatBox) -> io::Result<SatBox> {
     show::table(rt, t)?;
@@ -37,7 +37,7 @@ fn command(rt: &impl Print, t: SatBox, journal: &mut [u8], line: &[u8]) -> io::R
 }
 
 pub(crate) fn play(rt: &impl Print, input: &[u8], journal: &mut [u8]) -> io::Result<()> {
-    let mut t = SatBox::fresh(Settings::NONE).satbox;
+    let mut t = calls::NO_BOX;
     let mut p = 0;
     while p < input.len() {
         let line = script::line(input, p);

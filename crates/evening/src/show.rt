@@ -2,20 +2,24 @@
 use crate::out;
 use std::io;
 use stream::{Stream, Values};
-use table::{Outcome, Refusal, SatBox, Session, Settings};
+use table::{Refusal, SatBox, Session, Settings};
 
 pub(crate) fn refused(rt: &impl Print, label: &[u8], why: Refusal) -> io::Result<()> {
     out::text(rt, label)?;
     out::number(rt, b" refused ", table::number(why) as u32)
 }
 
-pub(crate) fn outcome(rt: &impl Print, label: &[u8], outcome: Outcome) -> io::Result<()> {
+pub(crate) fn outcome<T: Copy>(
+    rt: &impl Print,
+    label: &[u8],
+    outcome: Result<T, Refusal>,
+) -> io::Result<()> {
     match outcome {
-        Outcome::Done => {
+        Ok(_) => {
             out::text(rt, label)?;
             out::text(rt, b" done")
         }
-        Outcome::Refused(why) => refused(rt, label, why),
+        Err(why) => refused(rt, label, why),
     }
 }
 

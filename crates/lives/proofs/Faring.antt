@@ -1,5 +1,6 @@
 -- What becomes of one session in any calls: it stays at its place, and its last time with it unless a request that steps 1 to 10 let through names it; or
 -- a record says that it closed. Assumes nothing.
+use Rattle.std.specs.Prelude.{Ok, Err}
 use mathlib.Core.Path.{◌≡◌, refl, sym, ◌∙◌, ap, subst}
 use mathlib.Core.Bool.{Bool, true, false}
 use mathlib.Core.List.{List, [], ◌∷◌, ◌++◌}
@@ -30,8 +31,7 @@ use Rattle.finding.specs.Finding.{lowest_place}
 use Rattle.table.specs.declared.Session.{Session}
 use Rattle.table.specs.declared.Settings.{Settings}
 use Rattle.table.specs.declared.SatBox.{SatBox}
-use Rattle.table.specs.declared.Outcome.{Outcome}
-use Rattle.table.specs.declared.Outcome.TheVariants.{Done, Refused}
+use Rattle.table.specs.Made.{Outcome}
 use Rattle.table.proofs.Counts.{first_passes}
 use Rattle.table.proofs.Changes.{opened}
 use Rattle.steps.specs.Sights.{asked_of, session_number, place_named, sight_of}
@@ -48,6 +48,7 @@ use Rattle.promises.proofs.Methods.{options_alone, other_alone, play_marks, setu
 use Rattle.promises.proofs.Naming.{names_keeps}
 use Rattle.lives.specs.Calls.{lent, Call, request, tick, collect, order, is_call, Life, live, run, records_of}
 use Rattle.lives.specs.Closed.{is_closing_of, Fares, remains, closed, place_named_by, KeepsAlive, naming}
+use Rattle.lives.proofs.Lived.{lived, lived_as}
 use Rattle.lives.proofs.Settings.{sweeping_set, requested_set}
 use Rattle.lives.proofs.Holding.{Good}
 use Rattle.lives.proofs.Running.{live_good}
@@ -78,8 +79,8 @@ named_number t n (Named m) l = by (sames m 0) l
 
 -- the clock never falls
 done_later : (o : Outcome) {c : ℕ} (t u : SatBox) → c ≤ t.clock → c ≤ u.clock → c ≤ (if_done o u t).clock
-done_later Done t u a b = b
-done_later (Refused r) t u a b = a
+done_later (Ok o) t u a b = b
+done_later (Err r) t u a b = a
 
 clock_later : {settings : Settings} {c : ℕ} {x : Life} → Good settings x → (k : Call) → c ≤ x.satbox.clock → c ≤ (live k x).satbox.clock
 unfolding live replied ticked collected emptied
@@ -189,8 +190,8 @@ module _ (n i : ℕ) (some : n ≡ 0 → ⊥) (P : ℕ → Type 0) where
   then_fares {qs = qs} {rs = rs} (closed y) f = closed (any_left (is_closing_of n) qs rs y)
 
   done_fares : (o : Outcome) {t u : SatBox} {rs : List Record} → Fares n i P u rs → Fares n i P t [] → Fares n i P (if_done o u t) (if_done o rs [])
-  done_fares Done a b = a
-  done_fares (Refused r) a b = b
+  done_fares (Ok o) a b = a
+  done_fares (Err r) a b = b
 
   module _ (t : SatBox) (w : Whole t) (a : (session_at t i).number ≡ n) (p : P (session_at t i).last) where
     swept_fares : (clock : ℕ) → Fares n i P (sweeping clock t).satbox (sweeping clock t).records
@@ -216,20 +217,23 @@ module _ (n i : ℕ) (some : n ≡ 0 → ⊥) (P : ℕ → Type 0) where
   module _ (c : ℕ) where
     emptied_fares : (o : Outcome) {t : SatBox} → Fares n i P t [] → Fares n i P (if_done o (emptied t) t) []
     unfolding emptied
-    emptied_fares Done (remains a p) = remains a p
-    emptied_fares Done (closed y) = closed y
-    emptied_fares (Refused r) f = f
+    emptied_fares (Ok o) (remains a p) = remains a p
+    emptied_fares (Ok o) (closed y) = closed y
+    emptied_fares (Err r) f = f
+
+    lived_fares : {settings : Settings} {x : Life} → Good settings x → c ≤ x.satbox.clock → (k : Call) → (KeepsAlive settings.frontends n k → (m : ℕ) → c ≤ m → P m)
+        → (session_at x.satbox i).number ≡ n → P (session_at x.satbox i).last → Fares n i P (lived_as k x).satbox (lived_as k x).records
+    lived_fares {x = x} g now (request s clock address draw b l) kept a p =
+        done_fares (request_outcome x.satbox (lent l x.journal) b)
+        (requested_fares x.satbox g.whole a p s clock address draw (λ r e. kept (naming (rw g.set at r) e) _ (omega arith))) (remains a p)
+    lived_fares {x = x} g now (tick clock l) kept a p =
+        done_fares (tick_outcome x.satbox (lent l x.journal)) (swept_fares x.satbox g.whole a p clock) (remains a p)
+    lived_fares {x = x} g now (collect b l) kept a p = emptied_fares (collect_outcome x.satbox (lent l x.journal) b) (remains a p)
+    lived_fares g now (order f) kept a p = remains a p
 
     live_fares : {settings : Settings} {x : Life} → Good settings x → c ≤ x.satbox.clock → (k : Call) → (KeepsAlive settings.frontends n k → (m : ℕ) → c ≤ m → P m)
         → (session_at x.satbox i).number ≡ n → P (session_at x.satbox i).last → Fares n i P (live k x).satbox (live k x).records
-    unfolding live replied ticked collected
-    live_fares {x = x} g now (request s clock address draw b l) kept a p =
-        done_fares (request_outcome x.satbox (lent l x.journal) b)
-        (requested_fares x.satbox g.whole a p s clock address draw (λ r e. kept (naming (rw g.set at r) e) _ (omega arith))) (remains a p)
-    live_fares {x = x} g now (tick clock l) kept a p =
-        done_fares (tick_outcome x.satbox (lent l x.journal)) (swept_fares x.satbox g.whole a p clock) (remains a p)
-    live_fares {x = x} g now (collect b l) kept a p = emptied_fares (collect_outcome x.satbox (lent l x.journal) b) (remains a p)
-    live_fares g now (order f) kept a p = remains a p
+    live_fares {x = x} g now k kept a p = rw (lived k x) (lived_fares g now k kept a p)
 
     abbrev Unkept : ℕ → List Call → Type 0
     Unkept frontends ks = (i : ℕ) → KeepsAlive frontends n (get_or ks i (order 0)) → ⊥

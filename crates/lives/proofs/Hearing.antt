@@ -1,5 +1,6 @@
 -- A session that was heard of at a clock is not closed for its age until 60 later: no call lowers a last time, and a time-out's record is written only
 -- of who has expired at its clock. Assumes nothing.
+use Rattle.std.specs.Prelude.{Ok, Err}
 use mathlib.Core.Path.{◌≡◌, refl, sym, ◌∙◌, ap, subst}
 use mathlib.Core.Bool.{Bool, true, false, not, ◌&&◌, ◌||◌}
 use mathlib.Core.List.{List, [], ◌∷◌}
@@ -22,8 +23,7 @@ use Rattle.finding.specs.Finding.{lowest_place, lowest_id}
 use Rattle.table.specs.declared.Session.{Session}
 use Rattle.table.specs.declared.Settings.{Settings}
 use Rattle.table.specs.declared.SatBox.{SatBox}
-use Rattle.table.specs.declared.Outcome.{Outcome}
-use Rattle.table.specs.declared.Outcome.TheVariants.{Done, Refused}
+use Rattle.table.specs.Made.{Outcome}
 use Rattle.table.proofs.Counts.{bit_no, bit_yes, count_set, count_zero_at, get_or_set_all}
 use Rattle.steps.specs.Sights.{asked_of, sight_of}
 use Rattle.steps.specs.Steps.{is_passed}
@@ -44,6 +44,7 @@ use Rattle.promises.proofs.Retuning.{Changes, but}
 use Rattle.promises.proofs.Naming.{Keeps, names_keeps}
 use Rattle.lives.specs.Calls.{Lent, lent, Call, request, tick, collect, order, is_call, Life, live, run, records_of}
 use Rattle.lives.specs.Closed.{is_time_out, Fares, place_named_by, TearsDown, in_teardown}
+use Rattle.lives.proofs.Lived.{lived, lived_as}
 use Rattle.lives.proofs.Requests.{Kin, Retuned, retuned_same, answered_holds}
 use Rattle.lives.proofs.Settings.{sweeping_set, requested_set}
 use Rattle.lives.proofs.Fitting.{all_both}
@@ -187,22 +188,24 @@ module _ (n c : ℕ) (some : n ≡ 0 → ⊥) where
       }
 
   done_hears : (o : Outcome) {t u : SatBox} {rs : List Record} → Hears n c u rs → Hears n c t [] → Hears n c (if_done o u t) (if_done o rs [])
-  done_hears Done a b = a
-  done_hears (Refused r) a b = b
+  done_hears (Ok o) a b = a
+  done_hears (Err r) a b = b
 
   emptied_hears : (o : Outcome) {t : SatBox} → Hears n c t [] → Hears n c (if_done o (emptied t) t) []
   unfolding emptied
-  emptied_hears Done a = record { now = a.now; heard = a.heard; late = refl }
-  emptied_hears (Refused r) a = a
+  emptied_hears (Ok o) a = record { now = a.now; heard = a.heard; late = refl }
+  emptied_hears (Err r) a = a
+
+  lived_hears : {settings : Settings} {x : Life} → Good settings x → (k : Call) → c ≤ x.satbox.clock → Heard n c x.satbox → Hears n c (lived_as k x).satbox (lived_as k x).records
+  lived_hears {x = x} g (request s clock address draw b l) now h =
+      done_hears (request_outcome x.satbox (lent l x.journal) b) (requested_hears s clock address draw x.satbox g.whole now h) (record { now = now; heard = h; late = refl })
+  lived_hears {x = x} g (tick clock l) now h =
+      done_hears (tick_outcome x.satbox (lent l x.journal)) (swept_hears clock x.satbox g.whole now h) (record { now = now; heard = h; late = refl })
+  lived_hears {x = x} g (collect b l) now h = emptied_hears (collect_outcome x.satbox (lent l x.journal) b) (record { now = now; heard = h; late = refl })
+  lived_hears g (order k) now h = record { now = now; heard = h; late = refl }
 
   live_hears : {settings : Settings} {x : Life} → Good settings x → (k : Call) → c ≤ x.satbox.clock → Heard n c x.satbox → Hears n c (live k x).satbox (live k x).records
-  unfolding live replied ticked collected
-  live_hears {x = x} g (request s clock address draw b l) now h =
-      done_hears (request_outcome x.satbox (lent l x.journal) b) (requested_hears s clock address draw x.satbox g.whole now h) (record { now = now; heard = h; late = refl })
-  live_hears {x = x} g (tick clock l) now h =
-      done_hears (tick_outcome x.satbox (lent l x.journal)) (swept_hears clock x.satbox g.whole now h) (record { now = now; heard = h; late = refl })
-  live_hears {x = x} g (collect b l) now h = emptied_hears (collect_outcome x.satbox (lent l x.journal) b) (record { now = now; heard = h; late = refl })
-  live_hears g (order k) now h = record { now = now; heard = h; late = refl }
+  live_hears {x = x} g k now h = rw (lived k x) (lived_hears g k now h)
 
   run_hears : {settings : Settings} (ks : List Call) {x : Life} → all (is_call settings.size) ks ≡ true → Good settings x → c ≤ x.satbox.clock → Heard n c x.satbox → Hears n c (run ks x).satbox (records_of ks x)
   run_hears [] e g now h = record { now = now; heard = h; late = refl }
@@ -252,7 +255,7 @@ module _ {settings : Settings} {x : Life} (g : Good settings x) (s : List ℕ) (
   abbrev c : Call
   c = request s clock address draw b l
 
-  module _ (done : (live c x).outcome ≡ Done) (read : request_refusal settings.frontends s ≡ refusal.Passed) (named : place_named_by s v < 32) where
+  module _ (done : (live c x).outcome ≡ Ok tt) (read : request_refusal settings.frontends s ≡ refusal.Passed) (named : place_named_by s v < 32) where
     w : Whole v
     w = sweeping_whole clock x.satbox g.whole
 
@@ -268,15 +271,18 @@ module _ {settings : Settings} {x : Life} (g : Good settings x) (s : List ℕ) (
     keeps = names_keeps s address draw v w read_there named
 
     after_is : (live c x).satbox ≡ (answered s address draw v).did.satbox
-    unfolding live replied requested
-    after_is = rw done
+    unfolding requested
+    after_is =
+        let o = request_outcome x.satbox (lent l x.journal) b in
+        let d : o ≡ Ok tt = sym (ap (λ (y : Life). y.outcome) (lived c x)) ∙ done in
+        rw (lived c x, d)
 
     -- by the clock used
     now_is : v.clock ≡ max x.satbox.clock clock
     now_is = (sweeping_set clock x.satbox g.whole).clock
 
     now : max x.satbox.clock clock ≤ (live c x).satbox.clock
-    unfolding live requested
+    unfolding requested
     now = rw (after_is, (requested_set s clock address draw x.satbox g.whole).clock) (omega arith)
 
     -- after it whoever has the number was heard of: it is kept, or closed

@@ -1,5 +1,6 @@
 -- What every life keeps: the table is well formed, and the journal, what was collected and the sequence are those of the history. An operation
 -- that counts what it writes keeps it, and so does a collection. Assumes nothing.
+use Rattle.std.specs.Prelude.{Ok, Err}
 use mathlib.Core.Path.{◌≡◌, refl, ◌∙◌, ap}
 use mathlib.Core.Bool.{true}
 use mathlib.Core.List.{List, [], ◌++◌, append_assoc, append-nil}
@@ -15,8 +16,7 @@ use Rattle.journal.specs.declared.Record.{Record}
 use Rattle.table.specs.Formed.{are_settings}
 use Rattle.table.specs.declared.Settings.{Settings}
 use Rattle.table.specs.declared.SatBox.{SatBox}
-use Rattle.table.specs.declared.Outcome.{Outcome}
-use Rattle.table.specs.declared.Outcome.TheVariants.{Done, Refused}
+use Rattle.table.specs.Made.{Outcome}
 use Rattle.closings.specs.Closing.{Did, bytes_of}
 use Rattle.satbox.specs.Calls.{if_done, emptied}
 use Rattle.closings.proofs.DoesLaws.{bytes_append, bytes_length}
@@ -26,6 +26,7 @@ use Rattle.serving.proofs.RecordLaws.{CountsOn}
 use Rattle.serving.proofs.Recorded.{Recorded}
 use Rattle.promises.proofs.Written.{Counted}
 use Rattle.lives.specs.Calls.{Lent, own, lent, own_after, Life, life_after}
+use Rattle.lives.proofs.Lived.{worked, emptied_into}
 use Rattle.lives.proofs.Fitting.{all_both}
 use Rattle.lives.proofs.Journals.{take_written, counts_both}
 
@@ -73,33 +74,6 @@ pub record Works (t : SatBox) (d : Did) : Type 0 where
   pub settings : d.satbox.settings ≡ t.settings
   pub clock : d.satbox.clock < 4294967296
 
--- a life after a call that did d, or was refused, with the journal that it was lent
-abbrev pub worked : Lent → Outcome → Did → Life → Life
-worked l o d x =
-    record {
-      outcome = o;
-      records = if_done o d.records [];
-      satbox = if_done o d.satbox x.satbox;
-      journal = own_after l x.journal (if_done o (written (lent l x.journal) x.satbox.held (bytes_of d.records)) (lent l x.journal));
-      history = x.history ++ if_done o d.records [];
-      since = x.since ++ if_done o d.records [];
-      gathered = x.gathered ++ [];
-    }
-
--- and after one that collected into b, or was refused
-abbrev pub emptied_into : Lent → Outcome → List ℕ → Life → Life
-emptied_into l o b x =
-    let held = x.satbox.held in
-    record {
-      outcome = o;
-      records = [];
-      satbox = if_done o (emptied x.satbox) x.satbox;
-      journal = x.journal;
-      history = x.history ++ [];
-      since = if_done o [] x.since ++ [];
-      gathered = x.gathered ++ take (if_done o held 0) (if_done o (take held (lent l x.journal) ++ drop held b) b);
-    }
-
 module _ {settings : Settings} {x : Life} (g : Good settings x) where
   pub same_good : {o : Outcome} → Good settings (record { outcome = o; records = []; satbox = x.satbox; journal = x.journal; history = x.history ++ []; since = x.since ++ []; gathered = x.gathered ++ [] })
   same_good =
@@ -117,7 +91,7 @@ module _ {settings : Settings} {x : Life} (g : Good settings x) where
         gathered = rw append-nil g.gathered;
       }
 
-  done_good : (d : Did) → Works x.satbox d → Good settings (worked own Done d x)
+  done_good : (d : Did) → Works x.satbox d → Good settings (worked own (Ok tt) d x)
   done_good d w =
       let t = x.satbox in
       let new = bytes_of d.records in
@@ -139,14 +113,14 @@ module _ {settings : Settings} {x : Life} (g : Good settings x) where
       }
 
   pub worked_good : (o : Outcome) (d : Did) → Works x.satbox d → Good settings (worked own o d x)
-  worked_good Done d w = done_good d w
-  worked_good (Refused r) d w = same_good
+  worked_good (Ok o) d w = done_good d w
+  worked_good (Err r) d w = same_good
 
   -- A COLLECTION
   pub collected_good : (o : Outcome) (b : List ℕ) → Whole (if_done o (emptied x.satbox) x.satbox) → Good settings (emptied_into own o b x)
   unfolding emptied
-  collected_good (Refused r) b w = same_good
-  collected_good Done b w =
+  collected_good (Err r) b w = same_good
+  collected_good (Ok o) b w =
       let t = x.satbox in
       let n : length (take t.held x.journal) ≡ t.held = length-take-le t.held x.journal (omega (arith, g.whole.formed.fits.bound, sized g, g.journal)) in
       record {

@@ -1,5 +1,6 @@
 -- Nothing is closed in a call but what expires, loses its owner or is torn down, and the closings that are written bear the causes of document 01.
 -- Assumes nothing.
+use Rattle.std.specs.Prelude.{Ok, Err}
 use mathlib.Core.Path.{◌≡◌, refl, sym, ◌∙◌, ap, subst}
 use mathlib.Core.Bool.{true, false, ◌&&◌}
 use mathlib.Core.List.{List, [], ◌∷◌, ◌++◌, map, map-append, append-nil}
@@ -19,8 +20,7 @@ use Rattle.table.specs.Table.{any, count, no_session, has_number, is_open, sessi
 use Rattle.finding.specs.Finding.{lowest_place, lowest_id}
 use Rattle.table.specs.declared.Session.{Session}
 use Rattle.table.specs.declared.SatBox.{SatBox}
-use Rattle.table.specs.declared.Outcome.{Outcome}
-use Rattle.table.specs.declared.Outcome.TheVariants.{Done, Refused}
+use Rattle.table.specs.Made.{Outcome}
 use Rattle.table.proofs.Counts.{get_or_set_alike, first_some, first_passes}
 use Rattle.table.proofs.Changes.{opened, seated_live}
 use Rattle.steps.specs.Steps.{is_passed}
@@ -33,6 +33,7 @@ use Rattle.closings.proofs.Keeping.{Whole, clock_whole}
 use Rattle.satbox.proofs.Kept.{sweeping_whole}
 use Rattle.lives.specs.Calls.{Lent, Call, request, tick, collect, order, Life, live}
 use Rattle.lives.specs.Closed.{takes, says_closed, unnumbered, sweep_closings, teardown_closings, place_named_by, Sweeps, in_request, in_tick, Stays, TearsDown, in_teardown, Ends, expired, torn}
+use Rattle.lives.proofs.Lived.{lived, lived_as}
 use Rattle.lives.proofs.Requests.{Kin, Retuned, retuned_same, answered_holds}
 use Rattle.lives.proofs.Seating.{place_free}
 use Rattle.lives.proofs.Taking.{one_owner, closing_took}
@@ -176,9 +177,9 @@ module _ (x : Life) (w : Whole x.satbox) (i : ℕ) (some : is_open (session_at x
         inr (k.numbers i (rw st.session some) ∙ ap (λ (x : Session). x.number) st.session)
 
   done_ends : {c : Call} (o : Outcome) (u : SatBox) → Ends x.satbox i c ⊎ There u → (There (if_done o u x.satbox) → ⊥) → Ends x.satbox i c
-  done_ends Done u (inl e) gone = e
-  done_ends Done u (inr e) gone = absurd (gone e)
-  done_ends (Refused r) u e gone = absurd (gone refl)
+  done_ends (Ok o) u (inl e) gone = e
+  done_ends (Ok o) u (inr e) gone = absurd (gone e)
+  done_ends (Err r) u e gone = absurd (gone refl)
 
   tick_ends : (clock : ℕ) {c : Call} → Ends x.satbox i c ⊎ Stays x.satbox i (sweeping clock x.satbox).satbox → Ends x.satbox i c ⊎ There (sweeping clock x.satbox).satbox
   tick_ends clock (inl e) = inl e
@@ -192,28 +193,34 @@ module _ (x : Life) (w : Whole x.satbox) (i : ℕ) (some : is_open (session_at x
       answered_ends s clock address draw b l e (fared s address draw (sweeping clock x.satbox).satbox (sweeping_whole clock x.satbox w))
 
   -- IN A CALL, refused or not
+  lived_ends : (c : Call) → (There (lived_as c x).satbox → ⊥) → Ends x.satbox i c
+  unfolding emptied
+  lived_ends (request s clock address draw b l) gone =
+      done_ends (lived_as (request s clock address draw b l) x).outcome (requested s clock address draw x.satbox).did.satbox (request_ends s clock address draw b l (swept_ends in_request)) gone
+  lived_ends (tick clock l) gone = done_ends (lived_as (tick clock l) x).outcome (sweeping clock x.satbox).satbox (tick_ends clock (swept_ends in_tick)) gone
+  lived_ends (collect b l) gone = done_ends (lived_as (collect b l) x).outcome (emptied x.satbox) (inr refl) gone
+  lived_ends (order n) gone = absurd (gone refl)
+
   pub ends_in : (c : Call) → (There (live c x).satbox → ⊥) → Ends x.satbox i c
-  unfolding live replied ticked collected emptied
-  ends_in (request s clock address draw b l) gone =
-      done_ends (live (request s clock address draw b l) x).outcome (requested s clock address draw x.satbox).did.satbox (request_ends s clock address draw b l (swept_ends in_request)) gone
-  ends_in (tick clock l) gone = done_ends (live (tick clock l) x).outcome (sweeping clock x.satbox).satbox (tick_ends clock (swept_ends in_tick)) gone
-  ends_in (collect b l) gone = done_ends (live (collect b l) x).outcome (emptied x.satbox) (inr refl) gone
-  ends_in (order n) gone = absurd (gone refl)
+  ends_in c gone = lived_ends c (rw (lived c x) at gone)
 
 -- THE RECORDS of a TEARDOWN that is answered 200
-pub torn_text : (s : List ℕ) (clock address draw : ℕ) (b : List ℕ) (l : Lent) (x : Life) → Whole x.satbox → (live (request s clock address draw b l) x).outcome ≡ Done
+pub torn_text : (s : List ℕ) (clock address draw : ℕ) (b : List ℕ) (l : Lent) (x : Life) → Whole x.satbox → (live (request s clock address draw b l) x).outcome ≡ Ok tt
     → method_of s ≡ Teardown → is_passed (requested s clock address draw x.satbox).case ≡ true
     → map unnumbered (live (request s clock address draw b l) x).records
     ≡ sweep_closings (at_clock clock x.satbox) ++ teardown_closings (sweeping clock x.satbox).satbox (place_named_by s (sweeping clock x.satbox).satbox)
-unfolding live requested
+unfolding requested
 torn_text s clock address draw b l x w done e y =
+    let c = request s clock address draw b l in
+    let o : request_outcome x.satbox (lent l x.journal) b ≡ Ok tt = sym (ap (λ (z : Life). z.outcome) (lived c x)) ∙ done in
     let v = (sweeping clock x.satbox).satbox in
     let wv = sweeping_whole clock x.satbox w in
     let place = place_named_by s v in
     let d = answered_torn s address draw v wv e y in
-    ap (λ (o : Outcome). map unnumbered (if_done o (requested s clock address draw x.satbox).did.records [])) done
+    ap (λ (z : Life). map unnumbered z.records) (lived c x)
+    ∙ (ap (λ (o : Outcome). map unnumbered (if_done o (requested s clock address draw x.satbox).did.records [])) o
     ∙ (map-append unnumbered (sweeping clock x.satbox).records (answered s address draw v).did.records
-    ∙ rw (sweeping_text clock x.satbox w, d.is, (closing_took 1 place v d.closable wv).text))
+    ∙ rw (sweeping_text clock x.satbox w, d.is, (closing_took 1 place v d.closable wv).text)))
 
 -- and of any other call that sweeps
 abbrev Opens : SatBox → ℕ → List Record → Type 0
@@ -225,10 +232,12 @@ unfolding requested
 fared_text s clock address draw t n (tore e y) = absurd (n e y)
 fared_text s clock address draw t n (lasted k) = ((answered s address draw (sweeping clock t).satbox).did.records, refl, k.opens)
 
-pub else_text : {clock : ℕ} {c : Call} → Sweeps clock c → (x : Life) → Whole x.satbox → (live c x).outcome ≡ Done → (TearsDown x.satbox c → ⊥) → Opens x.satbox clock (live c x).records
-unfolding live
-else_text (in_request {s = s} {clock = clock} {address = address} {draw = draw}) x w done n =
+lived_text : {clock : ℕ} {c : Call} → Sweeps clock c → (x : Life) → Whole x.satbox → (lived_as c x).outcome ≡ Ok tt → (TearsDown x.satbox c → ⊥) → Opens x.satbox clock (lived_as c x).records
+lived_text (in_request {s = s} {clock = clock} {address = address} {draw = draw}) x w done n =
     subst (λ (o : Outcome). Opens x.satbox clock (if_done o (requested s clock address draw x.satbox).did.records [])) (sym done)
     (fared_text s clock address draw x.satbox (λ e y. n (in_teardown e y)) (fared s address draw (sweeping clock x.satbox).satbox (sweeping_whole clock x.satbox w)))
-else_text (in_tick {clock = clock}) x w done n =
+lived_text (in_tick {clock = clock}) x w done n =
     subst (λ (o : Outcome). Opens x.satbox clock (if_done o (sweeping clock x.satbox).records [])) (sym done) ([], sym (append-nil (sweeping clock x.satbox).records), refl)
+
+pub else_text : {clock : ℕ} {c : Call} → Sweeps clock c → (x : Life) → Whole x.satbox → (live c x).outcome ≡ Ok tt → (TearsDown x.satbox c → ⊥) → Opens x.satbox clock (live c x).records
+else_text {c = c} s x w done n = rw (lived c x) (lived_text s x w (rw (lived c x) at done) n)

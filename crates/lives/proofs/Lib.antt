@@ -2,6 +2,7 @@ pub mod Requests
 pub mod Settings
 pub mod Journals
 pub mod Fitting
+pub mod Lived
 pub mod Holding
 pub mod Running
 pub mod Refusals

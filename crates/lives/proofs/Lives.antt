@@ -23,7 +23,6 @@ use Rattle.table.specs.Made.{fresh, number_in}
 use Rattle.table.specs.declared.Session.{Session}
 use Rattle.table.specs.declared.Settings.{Settings}
 use Rattle.table.specs.declared.SatBox.{SatBox}
-use Rattle.table.specs.declared.Outcome.TheVariants.{Done}
 use Rattle.steps.specs.Sights.{asked_of, lists_of}
 use Rattle.steps.specs.Steps.{is_passed}
 use Rattle.steps.specs.declared.cases.Case.TheVariants.{Passed, Full}
@@ -35,6 +34,7 @@ use Rattle.closings.proofs.Keeping.{whole_formed}
 use Rattle.lives.specs.Calls.{Lent, Call, request, order, lacks_journal, is_call, Life, live, run, records_of, Lives, life_after}
 use Rattle.lives.specs.Closed.{Closed, is_closing_of, is_time_out, Fares, place_named_by, KeepsAlive, Sweeps, Stays, TearsDown, Ends, says_closed, says_opened, unnumbered, sweep_closings, teardown_closings, PassesElse}
 use Rattle.lives.specs.Audit.{let_go, is_held_by, audited, holds, Quiet, Notes, Leads, LetGo}
+use Rattle.lives.proofs.Lived.{lived}
 use Rattle.lives.proofs.Journals.{counts_at, counts_next}
 use Rattle.lives.proofs.Holding.{sized}
 use Rattle.lives.proofs.Running.{live_good, after_good, swept_set}
@@ -110,7 +110,7 @@ module _ (settings : Settings) (j : List ℕ) (cs : List Call) where
     room_for_every_closing = omega (arith, (after_good h).whole.formed.fits.bound, sized (after_good h))
 
     -- 4. NO CLOSING IS EVER HELD BACK, in a request or a tick at any clock (`Sweeps`) that was not refused by number: of the sessions open before it
-    module _ (clock : ℕ) (c : Call) (sweeps : Sweeps clock c) (done : (live c x).outcome ≡ Done) where
+    module _ (clock : ℕ) (c : Call) (sweeps : Sweeps clock c) (done : (live c x).outcome ≡ Ok tt) where
       -- each that has expired at the clock used is closed by its sweep, and its record is there (`Closed`; the records of the call are `records`,
       -- which `since` then ends with),
       pub expired_is_closed : (i : ℕ) → is_expired (max x.satbox.clock clock) (session_at x.satbox i) ≡ true
@@ -140,7 +140,7 @@ module _ (settings : Settings) (j : List ℕ) (cs : List Call) where
     sweep_causes clock = sweeping_text clock x.satbox (after_good h).whole
 
     -- In a TEARDOWN that is answered 200, after the sweep, the session that it names is closed too (`place_named_by`)
-    module _ (s : List ℕ) (clock address draw : ℕ) (b : List ℕ) (l : Lent) (done : (live (request s clock address draw b l) x).outcome ≡ Done)
+    module _ (s : List ℕ) (clock address draw : ℕ) (b : List ℕ) (l : Lent) (done : (live (request s clock address draw b l) x).outcome ≡ Ok tt)
         (tears : method_of s ≡ Teardown) (passed : is_passed (requested s clock address draw x.satbox).case ≡ true) where
       abbrev v : SatBox
       v = (sweeping clock x.satbox).satbox
@@ -152,14 +152,12 @@ module _ (settings : Settings) (j : List ℕ) (cs : List Call) where
       c = request s clock address draw b l
 
       pub torn_down_is_closed : Closed v place (live c x).satbox (live c x).records
-      unfolding live replied
-      torn_down_is_closed = torn_in s clock address draw b l x done (after_good h).whole tears passed
+      torn_down_is_closed = torn_in s clock address draw b l x (rw (lived c x) at done) (after_good h).whole tears passed
 
       -- and with an owner each that was on its stream
       pub left_by_owner_is_closed : ((session_at v place).owner ≡ 0 → ⊥) → (i : ℕ) → is_on (session_at v place).stream (session_at v i) ≡ true
           → Closed v i (live c x).satbox (live c x).records
-      unfolding live replied
-      left_by_owner_is_closed = left_in s clock address draw b l x done (after_good h).whole tears passed
+      left_by_owner_is_closed = left_in s clock address draw b l x (rw (lived c x) at done) (after_good h).whole tears passed
 
       -- and its records are those of its sweep, and then cause 1 of the one that it names and 3 of each that this takes along (`teardown_closings`)
       pub teardown_causes : map unnumbered (live c x).records
@@ -173,7 +171,7 @@ module _ (settings : Settings) (j : List ℕ) (cs : List Call) where
     nothing_else_closes c i some = ends_in x (after_good h).whole i some c
 
     -- and where it is no TEARDOWN answered 200 (`TearsDown`), what it writes after the records of its sweep is no closing
-    pub no_other_closing_is_written : (clock : ℕ) (c : Call) → Sweeps clock c → (live c x).outcome ≡ Done → (TearsDown x.satbox c → ⊥)
+    pub no_other_closing_is_written : (clock : ℕ) (c : Call) → Sweeps clock c → (live c x).outcome ≡ Ok tt → (TearsDown x.satbox c → ⊥)
         → (rest : List Record) × ((live c x).records ≡ (sweeping clock x.satbox).records ++ rest) × (any says_closed rest ≡ false)
     no_other_closing_is_written clock c sweeps = else_text sweeps x (after_good h).whole
 
@@ -193,7 +191,7 @@ module _ (settings : Settings) (j : List ℕ) (cs : List Call) where
       abbrev kept : Session
       kept = session_at (sweeping clock x.satbox).satbox seat
 
-      module _ (calls : all (is_call settings.size) (naming ∷ ds) ≡ true) (done : (live naming x).outcome ≡ Done)
+      module _ (calls : all (is_call settings.size) (naming ∷ ds) ≡ true) (done : (live naming x).outcome ≡ Ok tt)
           (read : request_refusal settings.frontends s ≡ refusal.Passed) (named : seat < 32) where
         -- is not closed for its age before the clock used plus 60: each record of those others that says so (`is_time_out`) has that clock or a later one,
         pub kept_is_not_timed_out : (i : ℕ) (past : Record) → i < length (records_of ds y) → is_time_out kept.number (get_or (records_of ds y) i past) ≡ true

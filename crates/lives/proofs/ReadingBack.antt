@@ -1,5 +1,5 @@
 -- Whoever has the bytes of a history has the history: each record is read back from its place. Assumes nothing.
-use Rattle.std.specs.Prelude.{Ok}
+use Rattle.std.specs.Prelude.{Ok, Err}
 use mathlib.Core.Path.{◌≡◌, refl, sym, subst}
 use mathlib.Core.Bool.{Bool, true}
 use mathlib.Core.List.{List, [], ◌∷◌, ◌++◌, append-nil}
@@ -16,13 +16,13 @@ use Rattle.journal.proofs.RoundTrip.{Fitting, written_read}
 use Rattle.table.specs.declared.Settings.{Settings}
 use Rattle.table.specs.Table.{no_session, session_at}
 use Rattle.table.specs.declared.Session.{Session}
-use Rattle.table.specs.declared.Outcome.{Outcome}
-use Rattle.table.specs.declared.Outcome.TheVariants.{Done, Refused}
+use Rattle.table.specs.Made.{Outcome}
 use Rattle.closings.specs.Closing.{Did, bytes_of, sweeping}
 use Rattle.satbox.specs.Calls.{if_done, tick_outcome, ticked, collect_outcome, emptied, collected, request_outcome, requested, replied}
 use Rattle.closings.proofs.DoesLaws.{bytes_length}
 use Rattle.serving.proofs.RecordLaws.{CountsOn}
 use Rattle.lives.specs.Calls.{lent, Call, request, tick, collect, order, is_short, is_call, Life, live, run, Lives, life_after}
+use Rattle.lives.proofs.Lived.{lived, lived_as}
 use Rattle.lives.proofs.Journals.{counts_at}
 use Rattle.lives.proofs.Fitting.{Short, is_fit, Fits, all_both, sweeping_fits, requested_fits}
 use Rattle.lives.proofs.Holding.{Good, born_good}
@@ -90,27 +90,30 @@ module _ {settings : Settings} {x : Life} (g : Good settings x) (f : Fitted x) w
 
   fitted_by : (o : Outcome) (d : Did) → Fits x.satbox d → FittedBy o d
   unfolding FittedBy
-  fitted_by Done d h = (h.kept.numbers, all_both is_fit x.history d.records f.fit h.fit)
-  fitted_by (Refused r) d h = (f.numbers, fit_nothing x.history f.fit)
+  fitted_by (Ok o) d h = (h.kept.numbers, all_both is_fit x.history d.records f.fit h.fit)
+  fitted_by (Err r) d h = (f.numbers, fit_nothing x.history f.fit)
 
   emptied_numbers : (o : Outcome) (k : ℕ) → (session_at (if_done o (emptied x.satbox) x.satbox) k).number < 4294967296
   unfolding emptied
-  emptied_numbers Done k = f.numbers k
-  emptied_numbers (Refused r) k = f.numbers k
+  emptied_numbers (Ok o) k = f.numbers k
+  emptied_numbers (Err r) k = f.numbers k
 
-  live_fitted : (c : Call) → is_call settings.size c ≡ true → Fitted (live c x)
-  unfolding live replied ticked collected FittedBy
-  live_fitted (request s clock address draw b l) e =
+  lived_fitted : (c : Call) → is_call settings.size c ≡ true → Fitted (lived_as c x)
+  unfolding FittedBy
+  lived_fitted (request s clock address draw b l) e =
       let p = and_both (is_short clock) _ e in
       let q = and_both (is_short draw) _ (and_both (is_short address) _ p.1).1 in
       let m = fitted_by (request_outcome x.satbox (lent l x.journal) b) (requested s clock address draw x.satbox).did (requested_fits s clock address draw (ltb-true clock 4294967296 p.0) (ltb-true draw 4294967296 q.0) x.satbox g.whole short) in
       record { numbers = m.0; fit = m.1 }
-  live_fitted (tick clock l) e =
+  lived_fitted (tick clock l) e =
       let m = fitted_by (tick_outcome x.satbox (lent l x.journal)) (sweeping clock x.satbox) (sweeping_fits clock x.satbox (ltb-true clock 4294967296 (and_both (is_short clock) _ e).0) g.whole short) in
       record { numbers = m.0; fit = m.1 }
-  live_fitted (collect b l) e =
+  lived_fitted (collect b l) e =
       record { numbers = emptied_numbers (collect_outcome x.satbox (lent l x.journal) b); fit = fit_nothing x.history f.fit }
-  live_fitted (order n) e = record { numbers = f.numbers; fit = fit_nothing x.history f.fit }
+  lived_fitted (order n) e = record { numbers = f.numbers; fit = fit_nothing x.history f.fit }
+
+  live_fitted : (c : Call) → is_call settings.size c ≡ true → Fitted (live c x)
+  live_fitted c e = rw (lived c x) (lived_fitted c e)
 
 run_fitted : {settings : Settings} (cs : List Call) {x : Life} → all (is_call settings.size) cs ≡ true → Good settings x → Fitted x → Fitted (run cs x)
 run_fitted [] e g f = f

@@ -1,4 +1,5 @@
 -- Which refusals a call on a well-formed box can get: never 1, and 2 exactly if its journal is of another length. Assumes nothing.
+use Rattle.std.specs.Prelude.{Ok, Err}
 use mathlib.Core.Path.{◌≡◌, refl}
 use mathlib.Core.Bool.{Bool, true, false, not, ◌&&◌}
 use mathlib.Core.Logic.{◌↔◌}
@@ -14,23 +15,22 @@ use Rattle.table.specs.Formed.{well_formed}
 use Rattle.table.specs.declared.SatBox.{SatBox}
 use Rattle.table.specs.declared.Refusal.{Refusal}
 use Rattle.table.specs.declared.Refusal.TheVariants.{Table, Journal, Answer, Buffer}
-use Rattle.table.specs.declared.Outcome.{Outcome}
-use Rattle.table.specs.declared.Outcome.TheVariants.{Done, Refused}
 use Rattle.orders.specs.Orders.{plays_as_owner, order_at, order_for, order_of}
 use Rattle.orders.proofs.OrderLaws.{is_fed}
 use Rattle.orders.specs.declared.Order.{Order}
 use Rattle.satbox.specs.Calls.{◌else◌and_then◌, is_journal, ticked, collected, replied}
 use Rattle.lives.specs.Calls.{lent, Call, request, tick, collect, order, order_outcome, lacks_journal, Life, live}
-use Rattle.table.specs.Made.{number_in}
+use Rattle.lives.proofs.Lived.{lived, lived_as}
+use Rattle.table.specs.Made.{number_in, Outcome}
 
 -- what stands behind the tests of 1 and 2 refuses by neither
 abbrev Past : Outcome → Type 0
 Past o = (number_in o ≡ 1 → ⊥) × (number_in o ≡ 2 → ⊥)
 
-past_done : Past Done
+past_done : Past (Ok tt)
 past_done = (λ e. omega arith, λ e. omega arith)
 
-last_test : (b : Bool) (r : Refusal) → Past (Refused r) → Past (b else r and_then Done)
+last_test : (b : Bool) (r : Refusal) → Past (Err r) → Past (b else r and_then Ok tt)
 last_test true r h = past_done
 last_test false r h = h
 
@@ -62,11 +62,13 @@ order_past t n f =
 
 -- EVERY CALL
 module _ (x : Life) (f : well_formed x.satbox ≡ true) where
-  pub call_gated : (c : Call) → Gated (lacks_journal x.satbox.settings.size c x.journal) (live c x).outcome
-  unfolding live replied ticked collected
-  call_gated (request s clock address draw b l) =
+  lived_gated : (c : Call) → Gated (lacks_journal x.satbox.settings.size c x.journal) (lived_as c x).outcome
+  lived_gated (request s clock address draw b l) =
       gated (well_formed x.satbox) (is_journal x.satbox (lent l x.journal)) _ f (last_test (not (ltb (length b) 4096)) Answer (λ e. omega arith, λ e. omega arith))
-  call_gated (tick clock l) = gated (well_formed x.satbox) (is_journal x.satbox (lent l x.journal)) Done f past_done
-  call_gated (collect b l) =
+  lived_gated (tick clock l) = gated (well_formed x.satbox) (is_journal x.satbox (lent l x.journal)) (Ok tt) f past_done
+  lived_gated (collect b l) =
       gated (well_formed x.satbox) (is_journal x.satbox (lent l x.journal)) _ f (last_test (not (ltb (length b) x.satbox.held)) Buffer (λ e. omega arith, λ e. omega arith))
-  call_gated (order n) = ungated (order_outcome (order_of x.satbox n).outcome) (order_past x.satbox n f)
+  lived_gated (order n) = ungated (order_outcome (order_of x.satbox n).outcome) (order_past x.satbox n f)
+
+  pub call_gated : (c : Call) → Gated (lacks_journal x.satbox.settings.size c x.journal) (live c x).outcome
+  call_gated c = rw (lived c x) (lived_gated c)

@@ -1,4 +1,5 @@
 -- Each call keeps what every life keeps (`Holding`), and so does any run of them. Assumes nothing.
+use Rattle.std.specs.Prelude.{Err}
 use mathlib.Core.Path.{◌≡◌, refl, ◌∙◌}
 use mathlib.Core.Bool.{Bool, true, false}
 use mathlib.Core.List.{List, [], ◌∷◌}
@@ -12,8 +13,7 @@ use Rattle.table.specs.declared.Settings.{Settings}
 use Rattle.table.specs.declared.SatBox.{SatBox}
 use Rattle.table.specs.declared.Refusal.{Refusal}
 use Rattle.table.specs.declared.Refusal.TheVariants.{Table, Journal}
-use Rattle.table.specs.declared.Outcome.{Outcome}
-use Rattle.table.specs.declared.Outcome.TheVariants.{Refused}
+use Rattle.table.specs.Made.{Outcome}
 use Rattle.closings.specs.Closing.{sweeping, at_clock}
 use Rattle.satbox.specs.Calls.{◌else◌and_then◌, is_journal, tick_outcome, ticked, ticked_journal, collect_outcome, collected, collected_into, request_outcome, requested, replied, replied_journal}
 use Rattle.closings.proofs.Closings.{swept_fine}
@@ -26,10 +26,11 @@ use Rattle.promises.proofs.Written.{Counted}
 use Rattle.promises.proofs.Counting.{requested_counted}
 use Rattle.lives.specs.Calls.{own, other, Call, request, tick, collect, order, is_short, is_lent, is_call, Life, live, run, Lives, life_after}
 use Rattle.lives.proofs.Settings.{sweeping_set, requested_set}
-use Rattle.lives.proofs.Holding.{Good, sized, born_good, Works, worked, emptied_into, same_good, worked_good, collected_good}
+use Rattle.lives.proofs.Lived.{worked, emptied_into, lived_as, lived}
+use Rattle.lives.proofs.Holding.{Good, sized, born_good, Works, same_good, worked_good, collected_good}
 
 -- a call that is lent other bytes than the box's journal, of another length, is refused
-pub refused_away : (P : Outcome → Type 0) (a b : Bool) (o : Outcome) → b ≡ false → ((r : Refusal) → P (Refused r)) → P (a else Table and_then b else Journal and_then o)
+pub refused_away : (P : Outcome → Type 0) (a b : Bool) (o : Outcome) → b ≡ false → ((r : Refusal) → P (Err r)) → P (a else Table and_then b else Journal and_then o)
 refused_away P true true o e h = never refl e
 refused_away P true false o e h = h Journal
 refused_away P false b o e h = h Table
@@ -70,28 +71,30 @@ module _ {settings : Settings} {x : Life} (g : Good settings x) where
         clock = omega (arith, f.clock, g.clock, ltb-true clock 4294967296 h);
       }
 
-  pub live_good : (c : Call) → is_call settings.size c ≡ true → Good settings (live c x)
-  unfolding live replied replied_journal ticked ticked_journal collected collected_into
-  live_good (request s clock address draw b own) e =
+  lived_good : (c : Call) → is_call settings.size c ≡ true → Good settings (lived_as c x)
+  lived_good (request s clock address draw b own) e =
       let p = and_both (is_short clock) _ e in
       let q = and_both (is_short draw) _ (and_both (is_short address) _ p.1).1 in
       worked_good g (request_outcome x.satbox x.journal b) (requested s clock address draw x.satbox).did (requested_works s clock address draw p.0 q.0)
-  live_good (request s clock address draw b (other k)) e =
+  lived_good (request s clock address draw b (other k)) e =
       let p = and_both (is_short clock) _ e in
       let q = and_both (is_short draw) _ (and_both (is_short address) _ p.1).1 in
       refused_away (λ (o : Outcome). Good settings (worked (other k) o (requested s clock address draw x.satbox).did x)) (well_formed x.satbox) (is_journal x.satbox k) _
       (not_lent settings.size x.satbox k (sized g) q.1) (λ r. same_good g)
-  live_good (tick clock own) e =
+  lived_good (tick clock own) e =
       worked_good g (tick_outcome x.satbox x.journal) (sweeping clock x.satbox) (sweeping_works clock (and_both (is_short clock) _ e).0)
-  live_good (tick clock (other k)) e =
+  lived_good (tick clock (other k)) e =
       refused_away (λ (o : Outcome). Good settings (worked (other k) o (sweeping clock x.satbox) x)) (well_formed x.satbox) (is_journal x.satbox k) _
       (not_lent settings.size x.satbox k (sized g) (and_both (is_short clock) _ e).1) (λ r. same_good g)
-  live_good (collect b own) e =
+  lived_good (collect b own) e =
       collected_good g (collect_outcome x.satbox x.journal b) b (collect_whole x.satbox x.journal b g.whole)
-  live_good (collect b (other k)) e =
+  lived_good (collect b (other k)) e =
       refused_away (λ (o : Outcome). Good settings (emptied_into (other k) o b x)) (well_formed x.satbox) (is_journal x.satbox k) _
       (not_lent settings.size x.satbox k (sized g) e) (λ r. same_good g)
-  live_good (order n) e = same_good g
+  lived_good (order n) e = same_good g
+
+  pub live_good : (c : Call) → is_call settings.size c ≡ true → Good settings (live c x)
+  live_good c e = rw (lived c x) (lived_good c e)
 
 -- ALL OF THEM
 run_good : {settings : Settings} (cs : List Call) {x : Life} → all (is_call settings.size) cs ≡ true → Good settings x → Good settings (run cs x)

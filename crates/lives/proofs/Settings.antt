@@ -1,4 +1,5 @@
 -- No call moves what is fixed when a box is made, and the clock is the larger of the box's and the call's. Assumes nothing.
+use Rattle.std.specs.Prelude.{Ok, Err}
 use mathlib.Core.Path.{◌≡◌, refl, ◌∙◌}
 use mathlib.Core.List.{List}
 use Prim.Native.Nat.{ℕ, max}
@@ -7,8 +8,7 @@ use Rattle.stream.specs.declared.Stream.{Stream}
 use Rattle.finding.specs.Finding.{lowest_id}
 use Rattle.table.specs.declared.Session.{Session}
 use Rattle.table.specs.declared.SatBox.{SatBox}
-use Rattle.table.specs.declared.Outcome.{Outcome}
-use Rattle.table.specs.declared.Outcome.TheVariants.{Done, Refused}
+use Rattle.table.specs.Made.{Outcome}
 use Rattle.closings.specs.Closing.{Did, nothing, restreamed, reseated, noting, closing, sweeping, at_clock}
 use Rattle.closings.specs.Does.{Closable}
 use Rattle.serving.specs.Serving.{guest, seating_as as seated, can_join, joining, can_open, opening}
@@ -91,8 +91,8 @@ module _ (x : Life) (w : Whole x.satbox) where
   own l = lent l x.journal
 
   if_done_law : (o : Outcome) (u : SatBox) → u.settings ≡ t.settings → (if_done o u t).settings ≡ t.settings
-  if_done_law Done u e = e
-  if_done_law (Refused r) u e = refl
+  if_done_law (Ok o) u e = e
+  if_done_law (Err r) u e = refl
 
   pub settings_stay : (c : Call) → (live c x).satbox.settings ≡ t.settings
   unfolding live replied ticked collected emptied

@@ -1,4 +1,5 @@
 -- After a request or a tick no open session has expired: what the sweep left is not, and nothing that a request does makes one so. Assumes nothing.
+use Rattle.std.specs.Prelude.{Ok, Err}
 use mathlib.Core.Path.{◌≡◌, refl, sym, subst}
 use mathlib.Core.Bool.{true, false, and-false}
 use mathlib.Core.List.{List, [], ◌∷◌}
@@ -13,8 +14,7 @@ use Rattle.finding.specs.Finding.{lowest_place, lowest_id}
 use Rattle.table.specs.declared.Session.{Session}
 use Rattle.table.specs.declared.Settings.{Settings}
 use Rattle.table.specs.declared.SatBox.{SatBox}
-use Rattle.table.specs.declared.Outcome.{Outcome}
-use Rattle.table.specs.declared.Outcome.TheVariants.{Done, Refused}
+use Rattle.table.specs.Made.{Outcome}
 use Rattle.table.proofs.Counts.{get_or_set_all}
 use Rattle.closings.specs.Closing.{Did, nothing, restreamed, reseated, noting, is_expired, closing, sweeping, at_clock}
 use Rattle.closings.specs.Does.{Closable}
@@ -26,6 +26,7 @@ use Rattle.closings.proofs.Keeping.{Whole, clock_whole}
 use Rattle.satbox.proofs.Kept.{sweeping_whole}
 use Rattle.lives.specs.Calls.{lent, Call, request, tick, collect, order, is_call, Life, live, run, Lives, life_after}
 use Rattle.lives.specs.Closed.{Sweeps, in_request, in_tick}
+use Rattle.lives.proofs.Lived.{lived, lived_as}
 use Rattle.lives.proofs.Requests.{Kin, Retuned, retuned_same, answered_holds}
 use Rattle.lives.proofs.Settings.{sweeping_set, requested_set}
 use Rattle.lives.proofs.Holding.{Good, born_good}
@@ -96,17 +97,19 @@ requested_young s clock address draw t w =
     subst (λ n. Young n (answered s address draw u).did.satbox) c
     (answered_young s address draw u (sweeping_whole clock t w) (subst (λ n. Young n u) (sym c) (sweeping_young clock t w)))
 
-pub young_after : {clock : ℕ} {c : Call} → Sweeps clock c → (x : Life) → (live c x).outcome ≡ Done → Whole x.satbox → Young (max x.satbox.clock clock) (live c x).satbox
-unfolding live replied ticked
-young_after (in_request {s = s} {clock = clock} {address = address} {draw = draw}) x e w =
+young_lived : {clock : ℕ} {c : Call} → Sweeps clock c → (x : Life) → (lived_as c x).outcome ≡ Ok tt → Whole x.satbox → Young (max x.satbox.clock clock) (lived_as c x).satbox
+young_lived (in_request {s = s} {clock = clock} {address = address} {draw = draw}) x e w =
     subst (λ (o : Outcome). Young (max x.satbox.clock clock) (if_done o (requested s clock address draw x.satbox).did.satbox x.satbox)) (sym e) (requested_young s clock address draw x.satbox w)
-young_after (in_tick {clock = clock}) x e w =
+young_lived (in_tick {clock = clock}) x e w =
     subst (λ (o : Outcome). Young (max x.satbox.clock clock) (if_done o (sweeping clock x.satbox).satbox x.satbox)) (sym e) (sweeping_young clock x.satbox w)
+
+pub young_after : {clock : ℕ} {c : Call} → Sweeps clock c → (x : Life) → (live c x).outcome ≡ Ok tt → Whole x.satbox → Young (max x.satbox.clock clock) (live c x).satbox
+young_after {c = c} s x e w = rw (lived c x) (young_lived s x (rw (lived c x) at e) w)
 
 -- A RUN of them: at the box's own clock
 done_young : (o : Outcome) (t u : SatBox) → Young t.clock t → Young u.clock u → Young (if_done o u t).clock (if_done o u t)
-done_young Done t u a b = b
-done_young (Refused r) t u a b = a
+done_young (Ok o) t u a b = b
+done_young (Err r) t u a b = a
 
 live_young : {settings : Settings} {x : Life} → Good settings x → (c : Call) → Young x.satbox.clock x.satbox → Young (live c x).satbox.clock (live c x).satbox
 unfolding live replied ticked collected emptied

@@ -1,13 +1,13 @@
 -- A box's life: calls with whatever their callers hand in, one after the other, from a fresh box. Assumes nothing.
-use Rattle.std.specs.Prelude.{ℕ, ◌≡◌, Bool, true, false, not, ◌&&◌, eqb, ltb, length, take}
+use Rattle.std.specs.Prelude.{ℕ, ◌≡◌, Bool, true, false, not, ◌&&◌, eqb, ltb, length, take, Ok, Err, Result}
+use Rattle.std.specs.Result.{result_unwrap_or}
 use mathlib.Core.List.{List, [], ◌∷◌, ◌++◌, foldl}
 use Rattle.scan.specs.Lists.{all}
 use Rattle.journal.specs.declared.Record.{Record}
-use Rattle.table.specs.Made.{fresh}
+use Rattle.table.specs.Made.{fresh, Outcome}
 use Rattle.table.specs.declared.Settings.{Settings}
 use Rattle.table.specs.declared.SatBox.{SatBox}
-use Rattle.table.specs.declared.Outcome.{Outcome}
-use Rattle.table.specs.declared.Outcome.TheVariants.{Done, Refused}
+use Rattle.table.specs.declared.Refusal.{Refusal}
 use Rattle.table.specs.Formed.{are_settings}
 use Rattle.orders.specs.Orders.{order_of}
 use Rattle.orders.specs.declared.Ordered.{Ordered}
@@ -37,11 +37,16 @@ abbrev pub own_after : Lent → List ℕ → List ℕ → List ℕ
 own_after own j life_after = life_after
 own_after (other k) j life_after = j
 
+-- whether a call was done, whatever it counted
+abbrev pub told : Result ℕ Refusal → Outcome
+told (Ok n) = Ok tt
+told (Err r) = Err r
+
 -- a frontend order, on or off, was done
 abbrev pub order_outcome : Ordered → Outcome
-order_outcome On = Done
-order_outcome Off = Done
-order_outcome (Unordered r) = Refused r
+order_outcome On = Ok tt
+order_outcome Off = Ok tt
+order_outcome (Unordered r) = Err r
 
 -- the journal that a call is lent has not length C; a frontend order is lent none
 abbrev pub lacks_journal : ℕ → Call → List ℕ → Bool
@@ -86,7 +91,7 @@ onward x o rs t j left copied =
 unfoldable pub live : Call → Life → Life
 live (request s clock address draw b l) x =
     let r = replied s clock address draw x.satbox b (lent l x.journal) in
-    onward x r.outcome (if_done r.outcome (requested s clock address draw x.satbox).did.records []) r.satbox
+    onward x (told r.outcome) (if_done r.outcome (requested s clock address draw x.satbox).did.records []) r.satbox
     (own_after l x.journal (replied_journal s clock address draw x.satbox b (lent l x.journal))) x.since []
 live (tick clock l) x =
     let r = ticked clock x.satbox (lent l x.journal) in
@@ -94,7 +99,7 @@ live (tick clock l) x =
     (own_after l x.journal (ticked_journal clock x.satbox (lent l x.journal))) x.since []
 live (collect b l) x =
     let r = collected x.satbox (lent l x.journal) b in
-    onward x r.outcome [] r.satbox x.journal (if_done r.outcome [] x.since) (take r.count (collected_into x.satbox (lent l x.journal) b))
+    onward x (told r.outcome) [] r.satbox x.journal (if_done r.outcome [] x.since) (take (result_unwrap_or r.outcome 0) (collected_into x.satbox (lent l x.journal) b))
 live (order n) x = onward x (order_outcome (order_of x.satbox n).outcome) [] x.satbox x.journal x.since []
 
 -- A RUN: any calls, one after the other
@@ -114,4 +119,4 @@ pub record Lives (settings : Settings) (j : List ℕ) (cs : List Call) : Type 0 
 
 -- where it has come to from a fresh box with F frontends and journal size C; the journal's first bytes are whatever they are
 abbrev pub life_after : Settings → List ℕ → List Call → Life
-life_after settings j cs = run cs (record { outcome = Done; records = []; satbox = fresh settings; journal = j; history = []; since = []; gathered = [] })
+life_after settings j cs = run cs (record { outcome = Ok tt; records = []; satbox = fresh settings; journal = j; history = []; since = []; gathered = [] })

@@ -1,5 +1,6 @@
 -- Document 01, "Tried at the edges": P1 to P11, proved of the meanings of the calls. Where a proof is `refl`, both sides come to the same
 -- when they are worked out. Assumes nothing.
+use Rattle.std.specs.Prelude.{Ok}
 use Prim.Native.Nat.{ℕ, zero, suc, ◌+◌, ◌-◌, ◌≤◌, ◌<◌}
 use mathlib.Core.Path.{◌≡◌, refl, ap}
 use mathlib.Core.Bool.{Bool, true, false, cond, and-false}
@@ -35,7 +36,6 @@ use Rattle.finding.proofs.Draws.{drawn_from, drawn_new, drawn_nonzero}
 use Rattle.table.specs.Made.{settings_of}
 use Rattle.table.specs.declared.Session.{Session}
 use Rattle.table.specs.declared.SatBox.{SatBox}
-use Rattle.table.specs.declared.Outcome.TheVariants.{Done}
 use Rattle.answer.specs.Lines.{reason_of}
 use Rattle.steps.specs.Sights.{Asked, Lists, codes_in, sight_of}
 use Rattle.steps.specs.Steps.{table_case}
@@ -325,7 +325,7 @@ journal = replicate 1024 0
 pub record P11 : Type 0 where
   pub answer : answer_of example 0 home 1 box ≡ example_answer
   pub its_record : bytes_of (requested example 0 home 1 box).did.records ≡ first_record
-  pub outcome : request_outcome box journal buffer ≡ Done
+  pub outcome : request_outcome box journal buffer ≡ Ok tt
   pub into : replied_into example 0 home 1 box buffer journal ≡ example_answer ++ drop (length example_answer) buffer
   pub behind : replied_journal example 0 home 1 box buffer journal ≡ first_record ++ drop 16 journal
 

@@ -28,9 +28,9 @@ fn answer(request: &[u8], buffer: &mut [u8]) -> usize
     ensures prefix_len { result ≡ length (take result buffer.new) }
 {
     let mut journal = [0u8; 1024];
-    let satbox = SatBox::fresh(SETTINGS).satbox;
+    let satbox = SatBox::fresh(SETTINGS).unwrap();
     let replied = satbox::request(satbox, request, 0, ADDRESS, 1, buffer, &mut journal);
-    replied.count as usize
+    replied.outcome.unwrap() as usize
 }
 
 fn main(rt: HostRuntime) -> io::Result<()> {

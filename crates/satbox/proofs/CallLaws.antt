@@ -1,36 +1,31 @@
 -- The calls by the ways they end: each refusal, and done. Assumes nothing.
+use Rattle.std.specs.Prelude.{Result, Ok, Err, IsErrAnd}
 use mathlib.Core.Path.{◌≡◌, refl, sym, ◌∙◌, ap, subst}
 use mathlib.Core.Bool.{Bool, true, false, cond, not, ◌&&◌, ◌||◌}
-use mathlib.Core.List.{List, [], ◌∷◌, ◌++◌}
+use mathlib.Core.List.{List, [], ◌∷◌}
 use Prim.Native.Nat.{ℕ, ◌+◌, ◌-◌, ◌≤◌, ◌<◌, min, max}
 use native.Mathlib.Omega.{arith}
-use lib.Dec.{eqb, leb, ltb}
-use Rattle.std.specs.Prelude.{Option}
-use lib.ListN.{length, take, drop, length-take}
-use borrow.Author.Tests.{eqb-true, ltb-false, le-leb, lt-leb, leb-true, leb-false, not-true}
-use Rattle.scan.specs.Lists.{part}
-use Rattle.scan.proofs.Bools.{never, Case, is, isnt, case}
+use lib.Dec.{leb}
+use lib.ListN.{length, take, length-take}
+use borrow.Author.Tests.{le-leb, lt-leb, leb-true, leb-false}
+use Rattle.scan.proofs.Bools.{Case, is, isnt, case}
 use Rattle.writing.specs.Wrote.{Wrote}
-use Rattle.writing.specs.Writing.{written}
-use Rattle.writing.proofs.Writes.{wrote_front, wrote_as}
+use Rattle.writing.proofs.Writes.{wrote_front}
 use Rattle.table.specs.Table.{any}
 use Rattle.table.specs.Formed.{well_formed}
 use Rattle.table.specs.Table.{is_free}
 use Rattle.table.specs.declared.Session.{Session}
 use Rattle.table.specs.declared.SatBox.{SatBox}
 use Rattle.table.specs.declared.Refusal.{Refusal}
-use Rattle.table.specs.declared.Refusal.TheVariants.{Table, Journal, Buffer}
-use Rattle.table.specs.declared.Outcome.{Outcome}
-use Rattle.table.specs.declared.Outcome.TheVariants.{Done, Refused}
+use Rattle.table.specs.declared.Refusal.TheVariants.{Table, Journal}
+use Rattle.table.specs.Made.{Outcome}
 use Rattle.table.proofs.Rules.{formed}
 use Rattle.formed.specs.Standings.{latest, oldest}
 use Rattle.closings.specs.Does.{Does}
-use Rattle.closings.specs.Closing.{bytes_of, is_expired, swept, sweeping, at_clock}
+use Rattle.closings.specs.Closing.{is_expired, swept, sweeping, at_clock}
 use Rattle.closings.specs.DueAt.{closing_due, aged_at}
 use Rattle.closings.specs.declared.Due.{Due}
-use Rattle.satbox.specs.Calls.{◌else◌and_then◌, if_done, tick_outcome, ticked, ticked_journal, emptied, collect_outcome, collected, collected_into}
-use Rattle.satbox.specs.declared.Ticked.{Ticked}
-use Rattle.satbox.specs.declared.Collected.{Collected}
+use Rattle.satbox.specs.Calls.{◌else◌and_then◌, is_journal, tick_outcome, ticked, ticked_journal, emptied, collect_outcome, collected, collected_into}
 use Rattle.closings.proofs.Closings.{age_is}
 use Rattle.closings.proofs.DoesLaws.{does_as}
 use Rattle.closings.proofs.Dues.{swept_aged, does_idle}
@@ -71,72 +66,58 @@ idle_swept {u} {j} t clock e o h f n = subst (λ x. Does x j (swept x) u j) e (d
 pub formed_held : (t : SatBox) → well_formed t ≡ true → t.held ≤ t.settings.size
 formed_held t e = omega (arith, (formed t e).fits.bound)
 
--- THE TESTS of a call in their order: it is done where each holds
-pub done_first : (a : Bool) (r : Refusal) (o : Outcome) → if_done (a else r and_then o) true false ≡ true → (a ≡ true) × (if_done o true false ≡ true)
-done_first true r o e = (refl, e)
-done_first false r o e = never e refl
+-- THE FIRST TESTS of a call: what both let through, and what refuses, whatever comes after them
+module _ (t : SatBox) (j : List ℕ) {r : Result ℕ Refusal} (e : r ≡ (well_formed t else Table and_then is_journal t j else Journal and_then Ok (oldest t.sessions))) where
+  pub let_through : {n : ℕ} → r ≡ Ok n → ((well_formed t ≡ true) × (is_journal t j ≡ true)) × (n ≡ oldest t.sessions)
+  let_through {n} h = by (well_formed t) (is_journal t j) (sym h ∙ e)
+    where
+      by : (a b : Bool) → ◌≡◌ {A = Result ℕ Refusal} (Ok n) (a else Table and_then b else Journal and_then Ok (oldest t.sessions)) → ((a ≡ true) × (b ≡ true)) × (n ≡ oldest t.sessions)
+      by true true q = ((refl, refl), cc)
+      by true false q = let y : ◌≡◌ {A = ℕ} 0 1 = cc in absurd (omega arith)
+      by false b q = let y : ◌≡◌ {A = ℕ} 0 1 = cc in absurd (omega arith)
+
+  pub refused_first : {x : Refusal} {T : Type 0} (o : Result T Refusal) → r ≡ Err x → (well_formed t else Table and_then is_journal t j else Journal and_then o) ≡ Err x
+  refused_first {x} {T} o h = by (well_formed t) (is_journal t j) (sym h ∙ e)
+    where
+      by : (a b : Bool) → ◌≡◌ {A = Result ℕ Refusal} (Err x) (a else Table and_then b else Journal and_then Ok (oldest t.sessions)) → (a else Table and_then b else Journal and_then o) ≡ Err x
+      by true true q = let y : ◌≡◌ {A = ℕ} 0 1 = cc in absurd (omega arith)
+      by true false q = let z : x ≡ Journal = cc in rw z
+      by false b q = let z : x ≡ Table = cc in rw z
+
+-- what a `?` hands on
+pub handed_on : {T : Type 0} {x : Refusal} (r : Result T Refusal) → IsErrAnd r (λ y. y ≡ x) → r ≡ Err x
+handed_on (Ok y) h = absurd h
+handed_on (Err y) h = ap Err h
 
 -- TICK
 module _ (clock : ℕ) (t : SatBox) (j : List ℕ) where
-  abbrev ticked_as : Outcome → SatBox → Ticked
-  ticked_as o r = record { satbox = r; outcome = o }
+  -- what the contract says of what is returned, the box and the journal
+  abbrev pub Ticks : Outcome → SatBox → List ℕ → Type 0
+  Ticks o u k = ((u ≡ (ticked clock t j).satbox) × (o ≡ (ticked clock t j).outcome)) × (k ≡ ticked_journal clock t j)
 
-  tick_by : (o : Outcome) {r : SatBox} {k : List ℕ} → (if_done o true false ≡ true → Does (at_clock clock t) j (sweeping clock t) r k) → (if_done o true false ≡ false → (r ≡ t) × (k ≡ j))
-      → (ticked_as o r ≡ ticked_as o (if_done o (sweeping clock t).satbox t)) × (k ≡ if_done o (written j t.held (bytes_of (sweeping clock t).records)) j)
-  unfolding at_clock
-  tick_by Done p q = let d = p refl in (rw d.satbox, d.journal)
-  tick_by (Refused x) p q = let d = q refl in (rw d.0, d.1)
+  pub tick_done : {u : SatBox} {k : List ℕ} → tick_outcome t j ≡ Ok tt → Does (at_clock clock t) j (sweeping clock t) u k → Ticks (Ok tt) u k
+  unfolding ticked ticked_journal at_clock
+  tick_done e d = rw e ((d.satbox, refl), d.journal)
 
-  pub tick_ends : {o : Outcome} {r : SatBox} {k : List ℕ} → o ≡ tick_outcome t j → (if_done o true false ≡ true → Does (at_clock clock t) j (sweeping clock t) r k)
-      → (if_done o true false ≡ false → (r ≡ t) × (k ≡ j)) → (record { satbox = r; outcome = o } ≡ ticked clock t j) × (k ≡ ticked_journal clock t j)
+  pub tick_refused : {x : Refusal} → tick_outcome t j ≡ Err x → Ticks (Err x) t j
   unfolding ticked ticked_journal
-  tick_ends {o} e p q = let z = tick_by o p q in (z.0 ∙ rw e, z.1 ∙ rw e)
-
-  pub tick_found : {o : Outcome} → o ≡ tick_outcome t j → if_done o true false ≡ true → well_formed t ≡ true
-  tick_found e h = (done_first (well_formed t) Table (eqb (length j) t.settings.size else Journal and_then Done) (sym (ap (λ x. if_done x true false) e) ∙ h)).0
+  tick_refused e = rw e ((refl, refl), refl)
 
 -- COLLECT
 module _ (t : SatBox) (j b : List ℕ) where
   abbrev left : ℕ → SatBox
   left n = record { sessions = t.sessions; streams = t.streams; settings = t.settings; held = n; clock = t.clock; sequence = t.sequence; spare = t.spare }
 
-  abbrev collected_as : Outcome → SatBox → ℕ → Collected
-  collected_as o r n = record { satbox = r; outcome = o; count = n }
+  -- what the contract says of what is returned, the box and the buffer
+  abbrev pub Collects : Result ℕ Refusal → SatBox → List ℕ → Type 0
+  Collects o u d = ((u ≡ (collected t j b).satbox) × (o ≡ (collected t j b).outcome)) × (d ≡ collected_into t j b)
 
-  collect_by : (o : Outcome) {d : List ℕ} {next : ℕ} → (if_done o true false ≡ true → (t.held ≤ length b) × (t.held ≤ length j)) → Wrote b 0 (part 0 (if_done o t.held 0) j) d next
-      → (collected_as o (left (if_done o 0 t.held)) (if_done o t.held 0) ≡ collected_as o (if_done o (emptied t) t) (if_done o t.held 0))
-      × (d ≡ if_done o (take t.held j ++ drop t.held b) b)
-  unfolding emptied
-  collect_by Done p w =
-      let h = p refl in
-      let n : length (take t.held j) ≡ t.held = length-take t.held j ∙ omega (arith, h.1) in
-      let m : t.held - 0 ≡ t.held = omega arith in
-      (refl, (wrote_front (wrote_as (ap (λ x. take x j) m) w) (omega (arith, h.0))).0 ∙ rw n)
-  collect_by (Refused x) p w = (refl, (wrote_front w (omega arith)).0)
+  pub collect_done : {d : List ℕ} {next : ℕ} → collect_outcome t j b ≡ Ok tt → t.held ≤ length b → t.held ≤ length j → Wrote b 0 (take t.held j) d next → Collects (Ok t.held) (left 0) d
+  unfolding collected collected_into emptied
+  collect_done e g h w =
+      let n : length (take t.held j) ≡ t.held = length-take t.held j ∙ omega (arith, h) in
+      rw e ((refl, refl), (wrote_front w (omega (arith, g))).0 ∙ rw n)
 
-  pub collect_ends : {o : Outcome} {d : List ℕ} {n m next : ℕ} → o ≡ collect_outcome t j b → n ≡ if_done o t.held 0 → m ≡ if_done o 0 t.held
-      → (if_done o true false ≡ true → (t.held ≤ length b) × (t.held ≤ length j)) → Wrote b 0 (part 0 n j) d next
-      → (record { satbox = left m; outcome = o; count = n } ≡ collected t j b) × (d ≡ collected_into t j b)
+  pub collect_refused : {x : Refusal} → collect_outcome t j b ≡ Err x → Collects (Err x) t b
   unfolding collected collected_into
-  collect_ends {o} {d} {n} {m} {next} e f g h w =
-      let z = collect_by o h (subst (λ x. Wrote b 0 (part 0 x j) d next) f w) in
-      let y : collected_as o (left m) n ≡ collected_as o (if_done o (emptied t) t) (if_done o t.held 0) = rw (f, g) z.0 in
-      (y ∙ rw e, z.1 ∙ rw e)
-
-  -- what a collecting that is done found
-  pub collect_found : {o : Outcome} → o ≡ collect_outcome t j b → if_done o true false ≡ true → (t.held ≤ length b) × (t.held ≤ length j)
-  collect_found {o} e h =
-      let c0 = not (ltb (length b) t.held) else Buffer and_then Done in
-      let b0 = eqb (length j) t.settings.size else Journal and_then c0 in
-      let a = done_first (well_formed t) Table b0 (sym (ap (λ x. if_done x true false) e) ∙ h) in
-      let c = done_first (eqb (length j) t.settings.size) Journal c0 a.1 in
-      let d = done_first (not (ltb (length b) t.held)) Buffer Done c.1 in
-      (omega (arith, ltb-false (length b) t.held (not-true (ltb (length b) t.held) d.0)), omega (arith, formed_held t a.0, eqb-true (length j) t.settings.size c.0))
-
-  -- no more is copied than there is
-  most_by : (o : Outcome) → (if_done o true false ≡ true → (t.held ≤ length b) × (t.held ≤ length j)) → if_done o t.held 0 ≤ length j
-  most_by Done h = (h refl).1
-  most_by (Refused x) h = omega arith
-
-  pub collect_most : {o : Outcome} {n : ℕ} → o ≡ collect_outcome t j b → n ≡ if_done o t.held 0 → n ≤ length j
-  collect_most {o} e f = let z = most_by o (collect_found e) in omega (arith, z)
+  collect_refused e = rw e ((refl, refl), refl)

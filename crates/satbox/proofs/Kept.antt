@@ -1,5 +1,6 @@
 -- A table that is well formed stays so: a fresh box is, and whatever a tick, a collection, a merged query, an opening or a closing leaves.
 -- Assumes nothing.
+use Rattle.std.specs.Prelude.{Ok, Err}
 use mathlib.Core.Path.{◌≡◌, refl, ◌∙◌, ap}
 use mathlib.Core.Bool.{true, ◌||◌}
 use mathlib.Core.List.{List, ◌∷◌}
@@ -17,11 +18,9 @@ use Rattle.stream.proofs.Keeping.{merge_sound, merge_frontend, merge_src}
 use Rattle.table.specs.Table.{stream_of, is_dead}
 use Rattle.table.specs.Reach.{has_source, set_of}
 use Rattle.table.specs.Formed.{are_settings, is_placed}
-use Rattle.table.specs.Made.{fresh}
 use Rattle.table.specs.declared.Settings.{Settings}
 use Rattle.table.specs.declared.SatBox.{SatBox}
-use Rattle.table.specs.declared.Outcome.{Outcome}
-use Rattle.table.specs.declared.Outcome.TheVariants.{Done, Refused}
+use Rattle.table.specs.Made.{fresh, Outcome}
 use Rattle.table.proofs.Rules.{formed}
 use Rattle.table.proofs.Changes.{seats_fed, placed_at, rows_fed, by_id}
 use Rattle.table.proofs.Fresh.{fresh_formed}
@@ -36,8 +35,8 @@ fresh_whole s e = record { formed = formed (fresh s) (fresh_formed s e); places 
 
 -- a call that was refused leaves its table alone
 pub done_keeps : (o : Outcome) (t u : SatBox) → Whole t → Whole u → Whole (if_done o u t)
-done_keeps Done t u w v = v
-done_keeps (Refused r) t u w v = w
+done_keeps (Ok x) t u w v = v
+done_keeps (Err r) t u w v = w
 
 -- A TICK
 pub sweeping_whole : (clock : ℕ) (t : SatBox) → Whole t → Whole (sweeping clock t).satbox

@@ -1,12 +1,12 @@
 -- A request by the ways it ends: each refusal of the call, and done; and that its answer is the meaning's and fits. Assumes nothing.
+use Rattle.std.specs.Prelude.{Result, Ok, Err}
 use mathlib.Core.Path.{◌≡◌, refl, sym, ◌∙◌, ap, subst}
 use mathlib.Core.Bool.{true, false, not, ◌&&◌}
 use mathlib.Core.List.{List, ◌++◌}
 use Prim.Native.Nat.{ℕ, ◌≤◌, ◌<◌}
 use native.Mathlib.Omega.{arith}
-use lib.Dec.{eqb, ltb}
+use lib.Dec.{eqb}
 use lib.ListN.{length, drop}
-use borrow.Author.Tests.{ltb-false, not-true}
 use Rattle.scan.proofs.Bools.{cond_keeps}
 use Rattle.writing.specs.Wrote.{Wrote}
 use Rattle.writing.specs.Writing.{written}
@@ -23,13 +23,10 @@ use Rattle.answer.specs.declared.Answer.{Answer}
 use Rattle.table.specs.Formed.{well_formed}
 use Rattle.table.specs.declared.Session.{Session}
 use Rattle.table.specs.declared.SatBox.{SatBox}
-use Rattle.table.specs.declared.Refusal.TheVariants as refusal
-use Rattle.std.specs.Prelude.{Result, Ok, Err}
+use Rattle.table.specs.declared.Refusal.{Refusal}
 use Rattle.stream.specs.declared.Stream.{Stream}
 use Rattle.stream.specs.declared.Refusal.{Refusal as Unmerged}
 use Rattle.stream.specs.declared.Refusal.TheVariants.{Combination as Clash, TooMany}
-use Rattle.table.specs.declared.Outcome.{Outcome}
-use Rattle.table.specs.declared.Outcome.TheVariants.{Done, Refused}
 use Rattle.steps.specs.Sights.{Asked, Lists, asked_of, lists_of, sight_of}
 use Rattle.steps.specs.Steps.{is_passed, is_named, table_case}
 use Rattle.steps.specs.Replies.{reply_text}
@@ -40,13 +37,11 @@ use Rattle.closings.specs.Does.{Does}
 use Rattle.closings.specs.Closing.{swept, sweeping, at_clock, bytes_of}
 use Rattle.serving.specs.Serving.{Serving, merging, merges, merge_case, is_unreached, is_opening, can_seat, case_of, kept, denied, grant, served, client_of, answered}
 use Rattle.serving.specs.Turns.{change_case, reason_of, about_of, performed, TurnIs}
-use Rattle.satbox.specs.Calls.{◌else◌and_then◌, if_done, request_outcome, requested, answer_of, replied, replied_into, replied_journal}
+use Rattle.satbox.specs.Calls.{request_outcome, requested, answer_of, replied, replied_into, replied_journal}
 use Rattle.satbox.specs.Branches.{Responds}
 use Rattle.serving.specs.declared.opening.Client.{Client}
 use Rattle.serving.specs.declared.Turn.{Turn}
-use Rattle.satbox.specs.declared.Replied.{Replied}
 use Rattle.satbox.specs.declared.Response.{Response}
-use Rattle.satbox.proofs.CallLaws.{done_first}
 use Rattle.closings.proofs.DoesLaws.{does_then}
 use Rattle.closings.proofs.Closings.{swept_fine}
 use Rattle.closings.proofs.Keeping.{Whole, whole_roomy, clock_whole, whole_formed}
@@ -137,12 +132,11 @@ swept_formed {t} {u} {v} {j} {k} clock w e p =
     rw q.satbox (whole_formed (sweeping clock t).satbox (sweeping_whole clock t w))
 
 module _ (s : List ℕ) (clock address draw : ℕ) (t : SatBox) (b j : List ℕ) where
-  -- what the contract says of the box, the answer buffer and the journal
-  abbrev pub Replies : Replied → List ℕ → List ℕ → Type 0
-  Replies x d k =
-      (x ≡ replied s clock address draw t b j)
-      × (d ≡ replied_into s clock address draw t b j)
-      × (k ≡ replied_journal s clock address draw t b j)
+  -- what the contract says of what is returned, the box, the answer buffer and the journal
+  abbrev pub Replies : Result ℕ Refusal → SatBox → List ℕ → List ℕ → Type 0
+  Replies o r d k =
+      ((r ≡ (replied s clock address draw t b j).satbox) × (o ≡ (replied s clock address draw t b j).outcome))
+      × ((d ≡ replied_into s clock address draw t b j) × (k ≡ replied_journal s clock address draw t b j))
 
   -- what a request that is done leaves
   abbrev pub Answered : SatBox → ℕ → List ℕ → List ℕ → Type 0
@@ -163,28 +157,10 @@ module _ (s : List ℕ) (clock address draw : ℕ) (t : SatBox) (b j : List ℕ)
       let buffer = front ∙ ap (λ m. answer_to s address draw m ++ drop (length (answer_to s address draw m)) b) q.satbox in
       ((does.satbox, c), (buffer, does.journal))
 
-  abbrev replied_as : Outcome → SatBox → ℕ → Replied
-  replied_as o r n = record { satbox = r; outcome = o; count = n }
-
-  request_by : (o : Outcome) {r : SatBox} {n : ℕ} {d l : List ℕ} → (if_done o true false ≡ true → Answered r n d l)
-      → (if_done o true false ≡ false → ((r ≡ t) × (n ≡ 0)) × ((d ≡ b) × (l ≡ j)))
-      → (replied_as o r n ≡ replied_as o (if_done o (requested s clock address draw t).did.satbox t) (if_done o (length (answer_of s clock address draw t)) 0))
-      × ((d ≡ if_done o (answer_of s clock address draw t ++ drop (length (answer_of s clock address draw t)) b) b)
-      × (l ≡ if_done o (written j t.held (bytes_of (requested s clock address draw t).did.records)) j))
-  request_by Done p q = let z = p refl in (rw (z.0.0, z.0.1), z.1)
-  request_by (Refused x) p q = let z = q refl in (rw (z.0.0, z.0.1), z.1)
-
-  pub request_ends : {o : Outcome} {r : SatBox} {n : ℕ} {d l : List ℕ} → o ≡ request_outcome t j b → (if_done o true false ≡ true → Answered r n d l)
-      → (if_done o true false ≡ false → ((r ≡ t) × (n ≡ 0)) × ((d ≡ b) × (l ≡ j))) → Replies (record { satbox = r; outcome = o; count = n }) d l
+  pub reply_done : {r : SatBox} {n : ℕ} {d l : List ℕ} → request_outcome t j b ≡ Ok tt → Answered r n d l → Replies (Ok n) r d l
   unfolding replied replied_into replied_journal
-  request_ends {o} e p q = let z = request_by o p q in (z.0 ∙ rw e, z.1.0 ∙ rw e, z.1.1 ∙ rw e)
+  reply_done e z = rw e ((z.0.0, ap Ok z.0.1), z.1)
 
-  -- what a request that is done found
-  pub request_found : {o : Outcome} → o ≡ request_outcome t j b → if_done o true false ≡ true → (well_formed t ≡ true) × (4096 ≤ length b)
-  request_found {o} e h =
-      let c0 = not (ltb (length b) 4096) else refusal.Answer and_then Done in
-      let b0 = eqb (length j) t.settings.size else refusal.Journal and_then c0 in
-      let a = done_first (well_formed t) refusal.Table b0 (sym (ap (λ x. if_done x true false) e) ∙ h) in
-      let c = done_first (eqb (length j) t.settings.size) refusal.Journal c0 a.1 in
-      let d = done_first (not (ltb (length b) 4096)) refusal.Answer Done c.1 in
-      (a.0, omega (arith, ltb-false (length b) 4096 (not-true (ltb (length b) 4096) d.0)))
+  pub reply_refused : {x : Refusal} → request_outcome t j b ≡ Err x → Replies (Err x) t b j
+  unfolding replied replied_into replied_journal
+  reply_refused e = rw e ((refl, refl), (refl, refl))

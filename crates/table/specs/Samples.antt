@@ -1,5 +1,5 @@
 -- Samples of the meanings, by computation: tables at the edges of the rules. Assumes nothing.
-use Rattle.std.specs.Prelude.{◌≡◌, refl, true, false, List, [], ◌∷◌, ◌++◌, ℕ, ◌-◌, length, replicate}
+use Rattle.std.specs.Prelude.{◌≡◌, refl, true, false, List, [], ◌∷◌, ◌++◌, ℕ, ◌-◌, length, replicate, Option, Some, None, Result, Ok, Err, is_ok}
 use Rattle.stream.specs.Values.{are_none, are_in_range, go_together}
 use Rattle.stream.specs.Pids.{is_choice}
 use Rattle.stream.specs.Streams.{no_stream, blank, are_zero, is_sound}
@@ -8,12 +8,10 @@ use Rattle.table.specs.Table.{no_session}
 use Rattle.table.specs.Formed.{is_seated, is_blank, well_formed}
 use Rattle.table.specs.Made.{settings_of, fresh, made_of}
 use Rattle.table.specs.declared.Refusal.TheVariants.{Sizes}
-use Rattle.table.specs.declared.Outcome.TheVariants.{Done, Refused}
 use Rattle.table.specs.Reach.{has_source, size_of}
 use Rattle.table.specs.declared.Session.{Session}
 use Rattle.table.specs.declared.Settings.{Settings}
-use Rattle.table.specs.declared.Made.{Made}
-use Rattle.table.specs.declared.Outcome.{Outcome}
+use Rattle.table.specs.declared.Refusal.{Refusal}
 use Rattle.table.specs.declared.SatBox.{SatBox}
 
 -- a session on a stream, by its number, owning or not, with its last time and its port
@@ -39,11 +37,11 @@ abbrev pub rows : List Stream → List Stream
 rows ms = ms ++ replicate (8 - length ms) no_stream
 
 -- making a box: F is 1 to 8, C is 1,024 to 65,536 and a multiple of 16
-pub made : ((made_of (settings_of 1 1024)).outcome ≡ Done) × ((made_of (settings_of 8 65536)).outcome ≡ Done) × ((made_of (settings_of 2 1040)).outcome ≡ Done)
+pub made : (is_ok (made_of (settings_of 1 1024)) ≡ true) × (is_ok (made_of (settings_of 8 65536)) ≡ true) × (is_ok (made_of (settings_of 2 1040)) ≡ true)
 unfolding made_of
 made = (refl, refl, refl)
 
-pub not_made : ((made_of (settings_of 0 1024)).outcome ≡ Refused Sizes) × ((made_of (settings_of 9 1024)).outcome ≡ Refused Sizes) × ((made_of (settings_of 2 1008)).outcome ≡ Refused Sizes) × ((made_of (settings_of 2 1032)).outcome ≡ Refused Sizes) × ((made_of (settings_of 2 65552)).outcome ≡ Refused Sizes)
+pub not_made : (made_of (settings_of 0 1024) ≡ Err Sizes) × (made_of (settings_of 9 1024) ≡ Err Sizes) × (made_of (settings_of 2 1008) ≡ Err Sizes) × (made_of (settings_of 2 1032) ≡ Err Sizes) × (made_of (settings_of 2 65552) ≡ Err Sizes)
 unfolding made_of
 not_made = (refl, refl, refl, refl, refl)
 
@@ -51,12 +49,14 @@ not_made = (refl, refl, refl, refl, refl)
 abbrev seeing : List ℕ → Settings
 seeing sets = record { size = 1024; frontends = 2; spare = 7; reach = sets }
 
-abbrev outcome_of : Made → Outcome
-outcome_of m = m.outcome
+-- the sets of a box that was made
+abbrev sets_of : Result SatBox Refusal → Option (List ℕ)
+sets_of (Ok t) = Some t.settings.reach
+sets_of (Err refusal) = None
 
-pub sets : (outcome_of (made_of (seeing (3 ∷ 12 ∷ 0 ∷ 99 ∷ 0 ∷ 0 ∷ 0 ∷ 0 ∷ []))) ≡ Done) × ((made_of (seeing (3 ∷ 12 ∷ 0 ∷ 99 ∷ 0 ∷ 0 ∷ 0 ∷ 0 ∷ []))).satbox.settings.reach ≡ 3 ∷ 12 ∷ 0 ∷ 0 ∷ 0 ∷ 0 ∷ 0 ∷ 0 ∷ []) × (outcome_of (made_of (seeing (3 ∷ 0 ∷ 0 ∷ 0 ∷ 0 ∷ 0 ∷ 0 ∷ 0 ∷ []))) ≡ Refused Sizes) × (outcome_of (made_of (seeing (16 ∷ 1 ∷ 0 ∷ 0 ∷ 0 ∷ 0 ∷ 0 ∷ 0 ∷ []))) ≡ Refused Sizes)
+pub sets : (sets_of (made_of (seeing (3 ∷ 12 ∷ 0 ∷ 99 ∷ 0 ∷ 0 ∷ 0 ∷ 0 ∷ []))) ≡ Some (3 ∷ 12 ∷ 0 ∷ 0 ∷ 0 ∷ 0 ∷ 0 ∷ 0 ∷ [])) × (made_of (seeing (3 ∷ 0 ∷ 0 ∷ 0 ∷ 0 ∷ 0 ∷ 0 ∷ 0 ∷ [])) ≡ Err Sizes) × (made_of (seeing (16 ∷ 1 ∷ 0 ∷ 0 ∷ 0 ∷ 0 ∷ 0 ∷ 0 ∷ [])) ≡ Err Sizes)
 unfolding made_of
-sets = (refl, refl, refl, refl)
+sets = (refl, refl, refl)
 
 -- {1, 3} is 5
 pub members : (has_source 5 1 ≡ true) × (has_source 5 2 ≡ false) × (has_source 5 3 ≡ true) × (has_source 5 4 ≡ false) × (has_source 31 5 ≡ false) × (size_of 5 ≡ 2) × (size_of 15 ≡ 4) × (size_of 8 ≡ 1)

@@ -52,7 +52,7 @@ pub struct Settings {
 }
 
 impl Settings {
-    // Those of a box that was refused.
+    // Those that no box has.
     pub const NONE: Settings = Settings {
         size: 0,
         frontends: 0,
@@ -75,7 +75,7 @@ pub struct SatBox {
 }
 
 // Why a call was refused.
-#[derive(Clone, Copy)]
+#[derive(Clone, Copy, Debug, PartialEq, Eq)]
 pub enum Refusal {
     // The table is not well formed.
     Table,
@@ -89,20 +89,6 @@ pub enum Refusal {
     Frontend,
     // The frontends, the journal's size or a frontend's set of sources are outside their range.
     Sizes,
-}
-
-// Whether a call was done.
-#[derive(Clone, Copy)]
-pub enum Outcome {
-    Done,
-    Refused(Refusal),
-}
-
-// What making a box gives: the box, which no call takes where it was refused.
-#[derive(Clone, Copy)]
-pub struct Made {
-    pub satbox: SatBox,
-    pub outcome: Outcome,
 }
 
 impl SatBox {
@@ -125,21 +111,15 @@ impl SatBox {
     pub const ANSWER: usize = 4096;
 
     // A box with nothing open, its clock at 0.
-    pub fn fresh(settings: Settings) -> Made
+    #[tactic(auto, unfolding(crate::specs::Made::made_of))]
+    pub fn fresh(settings: Settings) -> Result<SatBox, Refusal>
         ensures { result ≡ made_of settings }
     {
         let kept = stored(settings);
-        if are_settings(kept) {
-            Made {
-                satbox: empty(kept),
-                outcome: Outcome::Done,
-            }
-        } else {
-            Made {
-                satbox: empty(Settings::NONE),
-                outcome: Outcome::Refused(Refusal::Sizes),
-            }
+        if !are_settings(kept) {
+            return Err(Refusal::Sizes);
         }
+        Ok(empty(kept))
     }
 }
 
