@@ -146,7 +146,7 @@ pub(crate) fn table(rt: &impl Print, t: SatBox) -> io::Result<()> {
     out::number(rt, b"  frontends ", t.settings.frontends as u32)?;
     out::number(rt, b" size ", t.settings.size)?;
     reach(rt, t.settings)?;
-    if formed::is_well(formed::standing_of(&t)) {
+    if formed::standing_of(&t).is_some() {
         out::text(rt, b", well formed")?;
     } else {
         out::text(rt, b", not well formed")?;

@@ -1,5 +1,6 @@
 -- The walk over the sessions: a record for what holds before a place, and a law for the start, a turn and each way out. A walk that ends early
 -- met what no sessions of a well-formed table have. Assumes nothing.
+use Rattle.std.specs.Prelude.{Option, Some, None}
 use mathlib.Core.Path.{◌≡◌, refl, sym, ◌∙◌, ap, subst}
 use mathlib.Core.Bool.{Bool, true, false, not, ◌&&◌, ◌||◌, cond, and-false, or_assoc}
 use mathlib.Core.List.{List, [], ◌∷◌}
@@ -22,8 +23,6 @@ use Rattle.table.proofs.Rules.{numbers_of, is_proper}
 use Rattle.table.specs.declared.Session.{Session}
 use Rattle.table.proofs.Places.{failed, held, Counting, counting_start, counting_by, counting_end}
 use Rattle.formed.specs.Standings.{latest, oldest}
-use Rattle.formed.specs.declared.Standing.{Standing}
-use Rattle.formed.specs.declared.Standing.TheVariants.{Ill, Well}
 use Rattle.formed.proofs.Vacant.{Clear}
 
 -- a session is free, or on a stream that is live by the frontends at the streams' IDs
@@ -35,8 +34,8 @@ abbrev pub are_seated : ℕ → ℕ → ℕ → List ℕ → List Session → Bo
 are_seated clock bytes size feeds l =
     are_distinct (numbers_of l) && (all (is_homed feeds) l && (all (is_proper clock) l && (eqb (bytes % 16) 0 && leb (bytes + 16 * count is_open l) size)))
 
-abbrev pub seats_of : ℕ → ℕ → ℕ → List ℕ → List Session → Standing
-seats_of clock bytes size feeds l = cond (are_seated clock bytes size feeds l) (Well (oldest l)) Ill
+abbrev pub seats_of : ℕ → ℕ → ℕ → List ℕ → List Session → Option ℕ
+seats_of clock bytes size feeds l = cond (are_seated clock bytes size feeds l) (Some (oldest l)) None
 
 abbrev pub Tallied : List Session → List ℕ → Type 0
 Tallied l owners = (id : ℕ) → id < 9 → get_or owners id 0 ≡ count (owns id) l
@@ -120,10 +119,10 @@ oldest_most (s ∷ l) = by (is_free s) (oldest_most l)
 
 module _ (clock bytes size : ℕ) (feeds : List ℕ) (l : List Session) where
   -- what no such sessions have
-  pub ill : ((are_distinct (numbers_of l) ≡ true) → (all (is_homed feeds) l ≡ true) → (all (is_proper clock) l ≡ true) → ⊥) → Ill ≡ seats_of clock bytes size feeds l
+  pub ill : ((are_distinct (numbers_of l) ≡ true) → (all (is_homed feeds) l ≡ true) → (all (is_proper clock) l ≡ true) → ⊥) → None ≡ seats_of clock bytes size feeds l
   ill h = by (case (are_seated clock bytes size feeds l))
     where
-      by : Case (are_seated clock bytes size feeds l) → Ill ≡ seats_of clock bytes size feeds l
+      by : Case (are_seated clock bytes size feeds l) → None ≡ seats_of clock bytes size feeds l
       by (isnt n) = rw n
       by (is y) =
           let a = and_both (are_distinct (numbers_of l)) _ y in
@@ -183,7 +182,7 @@ module _ {clock : ℕ} {feeds : List ℕ} {l : List Session} {i n old : ℕ} {nu
       free = eq-eqb (get_or l i no_session).number 0 z
 
       -- a free place that is not empty
-      pub seating_not_empty : (bytes size : ℕ) → not r ≡ true → Ill ≡ seats_of clock bytes size feeds l
+      pub seating_not_empty : (bytes size : ℕ) → not r ≡ true → None ≡ seats_of clock bytes size feeds l
       seating_not_empty bytes size q = ill clock bytes size feeds l (λ d f p. never p (sym (passing_not (is_proper clock) no_session w.proper within (rw free e) (not-true r q))))
 
       pub seating_free : not r ≡ false → Seating clock feeds l (i + 1) numbers owners n old
@@ -218,7 +217,7 @@ module _ {clock : ℕ} {feeds : List ℕ} {l : List Session} {i n old : ℕ} {nu
           none_count (is_number v) (take n numbers) (omega (arith, a, b, c))
 
       -- a session that is not seated, or on no live stream, or whose number came before
-      pub seating_not : (bytes size : ℕ) → not r ≡ true → Ill ≡ seats_of clock bytes size feeds l
+      pub seating_not : (bytes size : ℕ) → not r ≡ true → None ≡ seats_of clock bytes size feeds l
       seating_not bytes size q =
           ill clock bytes size feeds l (λ d f p. never
           (both (rw not_free at (passed (is_proper clock) w.proper p)) (both (rw not_free at (passed (is_homed feeds) w.homed f)) (rw (twice d))))
@@ -307,11 +306,11 @@ module _ {clock : ℕ} {feeds : List ℕ} {l : List Session} {i n old last : ℕ
       rw (d, sym (passing_end (is_homed feeds) w.homed past), sym (passing_end (is_proper clock) w.proper past), sym (counting_end is_open w.opened past))
 
   module _ (bytes size : ℕ) {r : Bool} (e : r ≡ (eqb (bytes % 16) 0 && leb (bytes + 16 * n) size)) where
-    pub seated_well : not r ≡ false → Well old ≡ seats_of clock bytes size feeds l
+    pub seated_well : not r ≡ false → Some old ≡ seats_of clock bytes size feeds l
     seated_well q =
         let x = end oldest l 32 past in
         let o : old ≡ oldest l = omega (arith, x, all_places.since, all_places.young) in
         rw (sym (decides bytes size) ∙ held e q, o)
 
-    pub seated_ill : not r ≡ true → Ill ≡ seats_of clock bytes size feeds l
+    pub seated_ill : not r ≡ true → None ≡ seats_of clock bytes size feeds l
     seated_ill q = rw (sym (decides bytes size) ∙ failed e q)

@@ -3,7 +3,7 @@
 // not look for sessions that have expired.
 #![tactic(auto)]
 
-ghost use Rattle.std.specs.Prelude.{◌≡◌, true, false, not, cond, ◌&&◌, ◌||◌, List, ◌∷◌, map, ℕ, ◌+◌, ◌*◌, ◌%◌, ◌≤◌, ◌<◌, min, eqb, leb, length, get_or, take, drop, replicate};
+ghost use Rattle.std.specs.Prelude.{◌≡◌, true, false, not, cond, ◌&&◌, ◌||◌, List, ◌∷◌, map, ℕ, ◌+◌, ◌*◌, ◌%◌, ◌≤◌, ◌<◌, min, eqb, leb, length, get_or, take, drop, replicate, is_some};
 ghost use Rattle.scan.specs.Lists.{is_between, all};
 ghost use Rattle.stream.specs.Values.{is_zero};
 ghost use Rattle.stream.specs.Streams.{is_sound};
@@ -12,18 +12,10 @@ ghost use Rattle.table.specs.Table.{count, are_distinct, is_among, is_free, is_o
 ghost use Rattle.table.specs.Reach.{has_source, set_of};
 ghost use Rattle.table.specs.Formed.{is_placed, are_owned, is_seated, is_blank};
 ghost use Rattle.table.specs.declared.Session.{Session};
-ghost use Rattle.formed.specs.Standings.{oldest, standing_of, is_well, oldest_in};
-ghost use Rattle.formed.specs.declared.Standing.TheVariants.{Ill, Well};
+ghost use Rattle.formed.specs.Standings.{oldest, standing_of};
 
 use stream::Stream;
 use table::{SatBox, Session, Settings};
-
-// What one look at a table finds: that no box could stand so, or the oldest last time of its open sessions.
-#[derive(Clone, Copy)]
-pub enum Standing {
-    Ill,
-    Well(u32),
-}
 
 // No last time is later: the oldest where no session is open.
 const LATEST: u32 = 4294967295;
@@ -95,25 +87,6 @@ fn earlier(a: u32, b: u32) -> u32
     ensures { result ≡ min b a }
 {
     if b < a { b } else { a }
-}
-
-pub fn is_well(standing: Standing) -> bool
-    ensures { result ≡ is_well standing }
-{
-    match standing {
-        Standing::Ill => false,
-        Standing::Well(_) => true,
-    }
-}
-
-// The oldest last time that was found.
-pub fn oldest_in(standing: Standing) -> u32
-    ensures { result ≡ oldest_in standing }
-{
-    match standing {
-        Standing::Ill => LATEST,
-        Standing::Well(last) => last,
-    }
 }
 
 // Whether an open session may stand behind those before it: it is seated, on a live stream, and none of them has its number.
@@ -190,13 +163,13 @@ fn seats_of(
     size: u32,
     feeds: &[u32],
     owners: &mut [u32],
-) -> Standing
+) -> Option<u32>
     requires { (length feeds.now ≡ 9) × (owners.old ≡ replicate 9 0) }
     ensures { (result ≡ cond (are_distinct (map (λ s. s.number) sessions.now)
         && (all (λ s. is_free s || not (is_zero (get_or feeds.now s.stream 0))) sessions.now
         && (all (λ s. cond (is_free s) (is_blank s) (is_seated clock s)) sessions.now
-        && (eqb (held % 16) 0 && leb (held + 16 * count is_open sessions.now) size)))) (Well (oldest sessions.now)) Ill)
-        × (is_well result ≡ true → (id : ℕ) → id < 9 → get_or owners.new id 0 ≡ count (owns id) sessions.now) }
+        && (eqb (held % 16) 0 && leb (held + 16 * count is_open sessions.now) size)))) (Some (oldest sessions.now)) None)
+        × (is_some result ≡ true → (id : ℕ) → id < 9 → get_or owners.new id 0 ≡ count (owns id) sessions.now) }
 {
     let mut end = SatBox::SESSIONS;
     while 8 <= end {
@@ -227,12 +200,12 @@ fn seats_of(
         i += 1;
         if s.number == 0 {
             if !is_empty(s) {
-                return Standing::Ill;
+                return None;
             }
             continue;
         }
         if !is_admitted(s, clock, feeds, &numbers, opens) {
-            return Standing::Ill;
+            return None;
         }
         numbers[opens] = s.number;
         owners[s.stream as usize] += s.owner as u32;
@@ -240,33 +213,30 @@ fn seats_of(
         oldest = earlier(oldest, s.last);
     }
     if !is_fitting(held, size, opens) {
-        return Standing::Ill;
+        return None;
     }
-    Standing::Well(oldest)
+    Some(oldest)
 }
 
-// Looks at a whole table. No stream has the ID 0.
-pub fn standing_of(t: &SatBox) -> Standing
+// Looks at a whole table: the oldest last time of its open sessions, or none where no box could stand so. No stream has the ID 0.
+pub fn standing_of(t: &SatBox) -> Option<u32>
     ensures { result ≡ standing_of t.now }
 {
     let mut feeds = [0u32; 9];
     if !are_sound(&t.streams, t.settings, &mut feeds) {
-        return Standing::Ill;
+        return None;
     }
     let mut owners = [0u32; 9];
-    let standing = seats_of(
+    let oldest = seats_of(
         &t.sessions,
         t.clock,
         t.held,
         t.settings.size,
         &feeds,
         &mut owners,
-    );
-    if !is_well(standing) {
-        return Standing::Ill;
-    }
+    )?;
     if table::are_settings(t.settings) & table::are_distinct(&feeds) & are_owned(&feeds, &owners) {
-        return standing;
+        return Some(oldest);
     }
-    Standing::Ill
+    None
 }

@@ -102,7 +102,7 @@ fn order_for(t: &SatBox, n: u32) -> Order
 fn judged(t: &SatBox, n: u32) -> u32
     ensures { result ≡ cond (well_formed t.now) (cond (is_between 1 t.now.settings.frontends n) 0 2) 1 }
 {
-    if !formed::is_well(formed::standing_of(t)) {
+    if !formed::standing_of(t).is_some() {
         return 1;
     }
     if (n == 0) | ((t.settings.frontends as u32) < n) {

@@ -242,12 +242,6 @@ table_are_distinct κs a x y v w = same
 pub formed_standing_of : Unique formed_contracts.standing_of.ended formed.standing_of.Reads.Post
 formed_standing_of κs a x y v w = same
 
-pub formed_is_well : Unique formed_contracts.is_well.ended formed.is_well.Reads.Post
-formed_is_well κs a x y v w = same
-
-pub formed_oldest_in : Unique formed_contracts.oldest_in.ended formed.oldest_in.Reads.Post
-formed_oldest_in κs a x y v w = same
-
 pub table_number : Unique table_contracts.number.ended table.number.Reads.Post
 table_number κs a x y v w = same
 
