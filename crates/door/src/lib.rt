@@ -81,10 +81,9 @@ pub fn satbox_collect(t: &mut SatBox, journal: &[u8], buffer: &mut [u8]) -> Repl
 
 // What a frontend is to be set to.
 pub fn satbox_order(t: &mut SatBox, frontend: u32) -> Ordered
-    ensures { (result ≡ ordered_as (order_of t.old frontend).outcome (order_of t.old frontend).stream) × (t.new ≡ t.old) }
+    ensures { (result ≡ ordered_as (order_of t.old frontend)) × (t.new ≡ t.old) }
 {
-    let order = orders::frontend_order(t, frontend);
-    turns::ordered_as(order.outcome, order.stream)
+    turns::ordered_as(orders::frontend_order(t, frontend))
 }
 
 // Reads the record at a place; places count from 0.

@@ -44,24 +44,24 @@ pub(crate) fn reply_of(outcome: Result<u32, Refusal>) -> Reply
     }
 }
 
-pub(crate) fn ordered_as(outcome: orders::Ordered, stream: Stream) -> Ordered
-    ensures { result ≡ ordered_as outcome stream }
+pub(crate) fn ordered_as(order: Result<Option<Stream>, Refusal>) -> Ordered
+    ensures { result ≡ ordered_as order }
 {
-    match outcome {
-        orders::Ordered::On => Ordered {
+    match order {
+        Ok(Some(stream)) => Ordered {
             refusal: 0,
             on: 1,
             stream,
         },
-        orders::Ordered::Off => Ordered {
+        Ok(None) => Ordered {
             refusal: 0,
             on: 0,
-            stream,
+            stream: Stream::NONE,
         },
-        orders::Ordered::Refused(refusal) => Ordered {
+        Err(refusal) => Ordered {
             refusal: table::number(refusal) as u32,
             on: 0,
-            stream,
+            stream: Stream::NONE,
         },
     }
 }

@@ -64,7 +64,7 @@ pub extern "C" fn satbox_collect(t: &mut SatBox, journal: &[u8], buffer: &mut [u
 // What a frontend is to be set to.
 #[unsafe(no_mangle)]
 pub extern "C" fn satbox_order(t: &mut SatBox, frontend: u32) -> Ordered
-    ensures { (result ≡ ordered_as (order_of t.old frontend).outcome (order_of t.old frontend).stream) × (t.new ≡ t.old) }
+    ensures { (result ≡ ordered_as (order_of t.old frontend)) × (t.new ≡ t.old) }
 {
     door::satbox_order(t, frontend)
 }

@@ -1,6 +1,5 @@
 // The calls of the box but requests: a box, a tick, a collection and a frontend's order; and what every call makes of a spoilt table.
 use crate::{asking, fields, lent, out, show, words};
-use orders::Ordered;
 use std::io;
 use stream::Stream;
 use table::{SatBox, Session, Settings};
@@ -92,19 +91,17 @@ pub(crate) fn collect(
 }
 
 fn show_order(rt: &impl Print, label: &[u8], t: SatBox, n: u32) -> io::Result<()> {
-    let order = orders::frontend_order(&t, n);
-    let outcome = order.outcome;
-    match outcome {
-        Ordered::On => {
+    match orders::frontend_order(&t, n) {
+        Ok(Some(stream)) => {
             out::text(rt, label)?;
             out::text(rt, b" on")?;
-            show::stream(rt, order.stream)?;
+            show::stream(rt, stream)?;
         }
-        Ordered::Off => {
+        Ok(None) => {
             out::text(rt, label)?;
             out::text(rt, b" off")?;
         }
-        Ordered::Refused(why) => show::refused(rt, label, why)?,
+        Err(why) => show::refused(rt, label, why)?,
     }
     out::text(rt, b"\n")
 }

@@ -10,7 +10,7 @@ use Rattle.table.specs.Made.{Outcome}
 use Rattle.orders.specs.Orders.{order_of}
 use Rattle.closings.specs.Closing.{Did, bytes_of, sweeping}
 use Rattle.satbox.specs.Calls.{if_done, tick_outcome, ticked, ticked_journal, collect_outcome, emptied, collected, collected_into, request_outcome, requested, answer_of, replied, replied_journal}
-use Rattle.lives.specs.Calls.{Lent, lent, own_after, told, order_outcome, Call, request, tick, collect, order, Life, onward, live}
+use Rattle.lives.specs.Calls.{Lent, lent, own_after, told, Call, request, tick, collect, order, Life, onward, live}
 
 -- a life after a call that did d, or was refused, with the journal that it was lent
 abbrev pub worked : Lent → Outcome → Did → Life → Life
@@ -44,7 +44,7 @@ lived_as (request s clock address draw b l) x =
     worked l (request_outcome x.satbox (lent l x.journal) b) (requested s clock address draw x.satbox).did x
 lived_as (tick clock l) x = worked l (tick_outcome x.satbox (lent l x.journal)) (sweeping clock x.satbox) x
 lived_as (collect b l) x = emptied_into l (collect_outcome x.satbox (lent l x.journal) b) b x
-lived_as (order n) x = onward x (order_outcome (order_of x.satbox n).outcome) [] x.satbox x.journal x.since []
+lived_as (order n) x = onward x (told (order_of x.satbox n)) [] x.satbox x.journal x.since []
 
 -- what a call counts changes nothing of it
 counted_work : (l : Lent) (n : ℕ) (o : Outcome) (d : Did) (x : Life)

@@ -1,5 +1,5 @@
 -- Which refusals a call on a well-formed box can get: never 1, and 2 exactly if its journal is of another length. Assumes nothing.
-use Rattle.std.specs.Prelude.{Ok, Err}
+use Rattle.std.specs.Prelude.{Option, Result, Ok, Err}
 use mathlib.Core.Path.{◌≡◌, refl}
 use mathlib.Core.Bool.{Bool, true, false, not, ◌&&◌}
 use mathlib.Core.Logic.{◌↔◌}
@@ -15,11 +15,10 @@ use Rattle.table.specs.Formed.{well_formed}
 use Rattle.table.specs.declared.SatBox.{SatBox}
 use Rattle.table.specs.declared.Refusal.{Refusal}
 use Rattle.table.specs.declared.Refusal.TheVariants.{Table, Journal, Answer, Buffer}
-use Rattle.orders.specs.Orders.{plays_as_owner, order_at, order_for, order_of}
-use Rattle.orders.proofs.OrderLaws.{is_fed}
-use Rattle.orders.specs.declared.Order.{Order}
+use Rattle.orders.specs.Orders.{order_of}
+use Rattle.stream.specs.declared.Stream.{Stream}
 use Rattle.satbox.specs.Calls.{◌else◌and_then◌, is_journal, ticked, collected, replied}
-use Rattle.lives.specs.Calls.{lent, Call, request, tick, collect, order, order_outcome, lacks_journal, Life, live}
+use Rattle.lives.specs.Calls.{lent, Call, request, tick, collect, order, told, lacks_journal, Life, live}
 use Rattle.lives.proofs.Lived.{lived, lived_as}
 use Rattle.table.specs.Made.{number_in, Outcome}
 
@@ -47,18 +46,10 @@ gated true false o f h = (λ e. omega arith, (λ e. refl, λ e. refl))
 ungated : (o : Outcome) → Past o → Gated false o
 ungated o h = (h.0, (λ e. absurd (h.1 e), λ e. never e refl))
 
-abbrev OrderedPast : Order → Type 0
-OrderedPast o = Past (order_outcome o.outcome)
-
-order_past : (t : SatBox) (n : ℕ) → well_formed t ≡ true → OrderedPast (order_of t n)
-unfolding order_of order_for order_at
+order_past : (t : SatBox) (n : ℕ) → well_formed t ≡ true → Past (told (order_of t n))
+unfolding order_of
 order_past t n f =
-    rw f
-    (cond_keeps OrderedPast (is_between 1 t.settings.frontends n) _ _
-    (λ e. cond_keeps OrderedPast (ltb (first (is_fed n) t.streams) (length t.streams)) _ _
-    (λ h. cond_keeps OrderedPast (any (plays_as_owner (suc (first (is_fed n) t.streams))) t.sessions && are_complete (stream_of t (suc (first (is_fed n) t.streams))).values) _ _ (λ y. past_done) (λ y. past_done))
-    (λ h. past_done))
-    (λ e. (λ y. omega arith, λ y. omega arith)))
+    rw f (cond_keeps (λ (o : Result (Option Stream) Refusal). Past (told o)) (is_between 1 t.settings.frontends n) _ _ (λ e. past_done) (λ e. (λ y. omega arith, λ y. omega arith)))
 
 -- EVERY CALL
 module _ (x : Life) (f : well_formed x.satbox ≡ true) where
@@ -68,7 +59,7 @@ module _ (x : Life) (f : well_formed x.satbox ≡ true) where
   lived_gated (tick clock l) = gated (well_formed x.satbox) (is_journal x.satbox (lent l x.journal)) (Ok tt) f past_done
   lived_gated (collect b l) =
       gated (well_formed x.satbox) (is_journal x.satbox (lent l x.journal)) _ f (last_test (not (ltb (length b) x.satbox.held)) Buffer (λ e. omega arith, λ e. omega arith))
-  lived_gated (order n) = ungated (order_outcome (order_of x.satbox n).outcome) (order_past x.satbox n f)
+  lived_gated (order n) = ungated (told (order_of x.satbox n)) (order_past x.satbox n f)
 
   pub call_gated : (c : Call) → Gated (lacks_journal x.satbox.settings.size c x.journal) (live c x).outcome
   call_gated c = rw (lived c x) (lived_gated c)

@@ -10,8 +10,6 @@ use Rattle.table.specs.declared.SatBox.{SatBox}
 use Rattle.table.specs.declared.Refusal.{Refusal}
 use Rattle.table.specs.Formed.{are_settings}
 use Rattle.orders.specs.Orders.{order_of}
-use Rattle.orders.specs.declared.Ordered.{Ordered}
-use Rattle.orders.specs.declared.Ordered.TheVariants.{On, Off, Refused as Unordered}
 use Rattle.closings.specs.Closing.{sweeping}
 use Rattle.satbox.specs.Calls.{if_done, ticked, ticked_journal, collected, collected_into, requested, replied, replied_journal}
 
@@ -37,16 +35,10 @@ abbrev pub own_after : Lent → List ℕ → List ℕ → List ℕ
 own_after own j life_after = life_after
 own_after (other k) j life_after = j
 
--- whether a call was done, whatever it counted
-abbrev pub told : Result ℕ Refusal → Outcome
-told (Ok n) = Ok tt
+-- whether a call was done, whatever it counted; so was a frontend order, on or off
+abbrev pub told : {T : Type 0} → Result T Refusal → Outcome
+told (Ok x) = Ok tt
 told (Err r) = Err r
-
--- a frontend order, on or off, was done
-abbrev pub order_outcome : Ordered → Outcome
-order_outcome On = Ok tt
-order_outcome Off = Ok tt
-order_outcome (Unordered r) = Err r
 
 -- the journal that a call is lent has not length C; a frontend order is lent none
 abbrev pub lacks_journal : ℕ → Call → List ℕ → Bool
@@ -100,7 +92,7 @@ live (tick clock l) x =
 live (collect b l) x =
     let r = collected x.satbox (lent l x.journal) b in
     onward x (told r.outcome) [] r.satbox x.journal (if_done r.outcome [] x.since) (take (result_unwrap_or r.outcome 0) (collected_into x.satbox (lent l x.journal) b))
-live (order n) x = onward x (order_outcome (order_of x.satbox n).outcome) [] x.satbox x.journal x.since []
+live (order n) x = onward x (told (order_of x.satbox n)) [] x.satbox x.journal x.since []
 
 -- A RUN: any calls, one after the other
 abbrev pub run : List Call → Life → Life

@@ -7,33 +7,11 @@ ghost use Rattle.scan.specs.Found.{FirstOf};
 ghost use Rattle.stream.specs.declared.Stream.{Stream};
 ghost use Rattle.table.specs.Formed.{well_formed};
 ghost use Rattle.table.specs.Table.{any};
+ghost use Rattle.table.specs.declared.Refusal.TheVariants.{Table, Frontend};
 ghost use Rattle.orders.specs.Orders.{plays_as_owner, order_for, order_of};
 
 use stream::Stream;
 use table::{Refusal, SatBox, Session};
-
-#[derive(Clone, Copy)]
-pub enum Ordered {
-    On,
-    Off,
-    Refused(Refusal),
-}
-
-// A frontend's order: its stream where it is on, and an empty one where it is not.
-#[derive(Clone, Copy)]
-pub struct Order {
-    pub stream: Stream,
-    pub outcome: Ordered,
-}
-
-fn off(outcome: Ordered) -> Order
-    ensures { result ≡ Rattle.orders.specs.Orders.off outcome }
-{
-    Order {
-        stream: Stream::NONE,
-        outcome,
-    }
-}
 
 fn is_feed(f: u8, n: u32) -> bool
     ensures { result ≡ eqb f n }
@@ -77,50 +55,47 @@ fn is_played(sessions: &[Session; 32], id: u8) -> bool
 }
 
 // The order for one of the box's frontends: its stream, where the values are all there and its owner plays.
-fn order_for(t: &SatBox, n: u32) -> Order
+fn order_for(t: &SatBox, n: u32) -> Option<Stream>
     ensures { result ≡ order_for t.now n }
 {
     let i = place_fed(&t.streams, n);
     if i == SatBox::STREAMS {
-        return off(Ordered::Off);
+        return None;
     }
     let m = t.streams[i];
     if !stream::are_complete(m.values) {
-        return off(Ordered::Off);
+        return None;
     }
     let id = (i + 1) as u8;
     if !is_played(&t.sessions, id) {
-        return off(Ordered::Off);
+        return None;
     }
-    Order {
-        stream: m,
-        outcome: Ordered::On,
-    }
+    Some(m)
 }
 
-// Which refuses: 1 the table, 2 the frontend, 0 neither.
-fn judged(t: &SatBox, n: u32) -> u32
-    ensures { result ≡ cond (well_formed t.now) (cond (is_between 1 t.now.settings.frontends n) 0 2) 1 }
+fn is_frontend(n: u32, frontends: u16) -> bool
+    ensures { result ≡ is_between 1 frontends n }
 {
-    if !formed::standing_of(t).is_some() {
-        return 1;
-    }
-    if (n == 0) | ((t.settings.frontends as u32) < n) {
-        return 2;
-    }
-    0
+    (1..=frontends as u32).contains(&n)
 }
 
-// The order for a frontend; they count from 1.
-pub fn frontend_order(t: &SatBox, n: u32) -> Order
+// Refusals 1 and 5 of document 01, tested in that order.
+fn judged(t: &SatBox, n: u32) -> Result<(), Refusal>
+    ensures { result ≡ cond (well_formed t.now) (cond (is_between 1 t.now.settings.frontends n) (Ok tt) (Err Frontend)) (Err Table) }
+{
+    if formed::standing_of(t).is_none() {
+        return Err(Refusal::Table);
+    }
+    if !is_frontend(n, t.settings.frontends) {
+        return Err(Refusal::Frontend);
+    }
+    Ok(())
+}
+
+// The order for a frontend, which count from 1: the stream that it is to be set to, or none where it is to be off.
+pub fn frontend_order(t: &SatBox, n: u32) -> Result<Option<Stream>, Refusal>
     ensures { result ≡ order_of t.now n }
 {
-    let verdict = judged(t, n);
-    if verdict == 1 {
-        return off(Ordered::Refused(Refusal::Table));
-    }
-    if verdict == 2 {
-        return off(Ordered::Refused(Refusal::Frontend));
-    }
-    order_for(t, n)
+    judged(t, n)?;
+    Ok(order_for(t, n))
 }

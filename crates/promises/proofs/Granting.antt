@@ -1,6 +1,7 @@
 -- WHO IS NOT REFUSED. A request that steps 1 to 10 let through, and that names an open session, is answered 200 where it is an OPTIONS, whatever stream it
 -- names, and where it is a TEARDOWN of that session's stream; what they then do is said in `Methods`. And document 01's answer text by examples: what each
 -- method is answered on 200, the refusals that carry a line more, and each step that P1 to P11 do not try. Assumes nothing.
+use Rattle.std.specs.Prelude.{Some, None, is_some}
 use mathlib.Core.Path.{◌≡◌, refl, sym, ◌∙◌, ap}
 use mathlib.Core.List.{List, [], ◌∷◌}
 use Prim.Native.Nat.{ℕ, ◌<◌}
@@ -17,7 +18,6 @@ use Rattle.steps.specs.declared.cases.Case.TheVariants.{Passed}
 use Rattle.serving.specs.Serving.{Serving, served, client_of, answered}
 use Rattle.satbox.specs.Calls.{answer_of}
 use Rattle.orders.specs.Orders.{order_at, order_for}
-use Rattle.orders.specs.declared.Ordered.TheVariants.{On, Off}
 use Rattle.closings.proofs.Keeping.{Whole}
 use Rattle.serving.proofs.ServingLaws.{options_granted}
 use Rattle.serving.proofs.Branching.{tears_down}
@@ -157,11 +157,11 @@ lacking =
     box
 
 pub record Orders : Type 0 where
-  pub unplayed : (order_for opened 1).outcome ≡ Off
-  pub on : (order_for playing 1).outcome ≡ On
-  pub stream : (order_for playing 1).stream ≡ stream_of playing 1
-  pub another : (order_for playing 2).outcome ≡ Off
-  pub incomplete : (order_for lacking 1).outcome ≡ Off
+  pub unplayed : order_for opened 1 ≡ None
+  pub on : is_some (order_for playing 1) ≡ true
+  pub stream : order_for playing 1 ≡ Some (stream_of playing 1)
+  pub another : order_for playing 2 ≡ None
+  pub incomplete : order_for lacking 1 ≡ None
 
 pub orders : Orders
 unfolding meanings order_for order_at are_complete

@@ -84,11 +84,6 @@ module _ (t : SatBox) (j : List ℕ) {r : Result ℕ Refusal} (e : r ≡ (well_f
       by true false q = let z : x ≡ Journal = cc in rw z
       by false b q = let z : x ≡ Table = cc in rw z
 
--- what a `?` hands on
-pub handed_on : {T : Type 0} {x : Refusal} (r : Result T Refusal) → IsErrAnd r (λ y. y ≡ x) → r ≡ Err x
-handed_on (Ok y) h = absurd h
-handed_on (Err y) h = ap Err h
-
 -- TICK
 module _ (clock : ℕ) (t : SatBox) (j : List ℕ) where
   -- what the contract says of what is returned, the box and the journal

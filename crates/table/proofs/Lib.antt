@@ -7,3 +7,4 @@ pub mod Rules
 pub mod Changes
 pub mod FreeIds
 pub mod Ids
+pub mod Results

@@ -1,12 +1,10 @@
 use mathlib.Core.Path.{◌∙◌}
-use Rattle.orders.proofs.OrderLaws.{verdict_table, verdict_frontend, verdict_none}
+use Rattle.table.proofs.Results.{handed_on}
+use Rattle.orders.proofs.OrderLaws.{order_refused, order_given}
 use Rattle.orders.proofs.frontend_order.Goals as goal
 
-pub returns-then-verdict-eq1 : goal.returns-then-verdict-eq1
-returns-then-verdict-eq1 c = let a = c.args in c.off.ensures ∙ verdict_table a.t.now a.n c.judged-verdict.ensures c.if-verdict-eq1.true
-
-pub returns-then-verdict-eq2 : goal.returns-then-verdict-eq2
-returns-then-verdict-eq2 c = let a = c.args in c.off-then-verdict-eq2.ensures ∙ verdict_frontend a.t.now a.n c.judged-verdict.ensures c.if-verdict-eq2.true
+pub returns-in_err-judged : goal.returns-in_err-judged
+returns-in_err-judged c = let a = c.args in handed_on c.from_residual.result c.from_residual.ensures.1 ∙ order_refused a.t.now a.n c.judged.ensures c.in_err-judged.was
 
 pub returns : goal.returns
-returns c = let a = c.args in c.order_for.ensures ∙ verdict_none a.t.now a.n c.judged-verdict.ensures c.if-verdict-eq1.false c.if-verdict-eq2.false
+returns c = let a = c.args in rw c.order_for.ensures (order_given a.t.now a.n c.judged.ensures c.in_ok-judged.was)
