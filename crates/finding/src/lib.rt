@@ -15,14 +15,8 @@ use table::{SatBox, Session, Settings};
 pub fn place_of(sessions: &[Session; 32], n: u32) -> usize
     ensures { FirstOf (has_number n) sessions.now result }
 {
-    let mut place = 0;
-    while place < SatBox::SESSIONS {
-        if sessions[place].number == n {
-            return place;
-        }
-        place += 1;
-    }
-    place
+    let place = sessions.iter().position(|s| s.number == n);
+    place.unwrap_or(SatBox::SESSIONS)
 }
 
 // The lowest free place; 32 where none is free.
@@ -30,28 +24,16 @@ pub fn lowest_place(sessions: &[Session; 32]) -> usize
     ensures first { FirstOf is_free sessions.now result }
     ensures sized { length sessions.now ≡ 32 }
 {
-    let mut lowest = 0;
-    while lowest < SatBox::SESSIONS {
-        if sessions[lowest].number == 0 {
-            return lowest;
-        }
-        lowest += 1;
-    }
-    lowest
+    let place = sessions.iter().position(|s| s.number == 0);
+    place.unwrap_or(SatBox::SESSIONS)
 }
 
 // The place of the first stream that is not live; 8 where all are.
 fn first_dead(streams: &[Stream; 8]) -> usize
     ensures { FirstOf is_dead streams.now result }
 {
-    let mut i = 0;
-    while i < SatBox::STREAMS {
-        if streams[i].frontend == 0 {
-            return i;
-        }
-        i += 1;
-    }
-    i
+    let place = streams.iter().position(|m| m.frontend == 0);
+    place.unwrap_or(SatBox::STREAMS)
 }
 
 // The lowest free stream ID; 9 where none is free.
@@ -68,25 +50,11 @@ pub fn owns(s: Session, id: u32) -> bool
     (!(s.number == 0) & (s.stream as u32 == id)) & !(s.owner == 0)
 }
 
-// The frontend at each stream's place.
-fn frontends_of(streams: &[Stream; 8]) -> [u32; 8]
-    ensures { result ≡ map (λ (m : Stream). m.frontend) streams.now }
-{
-    let mut frontends = [0u32; 8];
-    let mut k = 0;
-    while k < SatBox::STREAMS {
-        let m = streams[k];
-        frontends[k] = m.frontend as u32;
-        k += 1;
-    }
-    frontends
-}
-
 // Whether a stream holds the frontend.
 pub fn is_held(streams: &[Stream; 8], f: u32) -> bool
     ensures { result ≡ is_held f streams.now }
 {
-    table::is_among(&frontends_of(streams), f)
+    streams.iter().any(|m| m.frontend as u32 == f)
 }
 
 // The set of each frontend by its place, empty where a stream holds the frontend.
@@ -94,18 +62,11 @@ fn free_sets(streams: &[Stream; 8], settings: Settings) -> [u8; 8]
     ensures { (f : ℕ) → slice_index (0 ∷ result) f ≡ (if is_held f streams.now then 0 else set_of settings f) }
 {
     let mut sets = settings.reach;
-    let mut k = 0;
-    while k < SatBox::STREAMS {
-        let m = streams[k];
+    for m in streams {
         let f = m.frontend as usize;
-        k += 1;
-        if f < 1 {
-            continue;
+        if (1 <= f) & (f <= SatBox::STREAMS) {
+            sets[f - 1] = 0;
         }
-        if 8 < f {
-            continue;
-        }
-        sets[f - 1] = 0;
     }
     sets
 }
@@ -118,15 +79,13 @@ pub fn choice(t: &SatBox, source: u32) -> u32
     let last = t.settings.frontends as u32;
     let mut best = 0;
     let mut least = 0;
-    let mut f = 8;
-    while 0 < f {
+    for f in (1..=8).rev() {
         let set = sets[f as usize - 1];
         let size = table::size_of(set);
         if ((f <= last) & table::has_source(set, source)) & ((best == 0) | (size <= least)) {
             best = f;
             least = size;
         }
-        f -= 1;
     }
     best
 }
@@ -137,15 +96,15 @@ pub fn draw(sessions: &[Session; 32], draw: u32) -> u32
 {
     let mut n = draw;
     'draw: loop {
-        let mut i = 0;
-        while n != 0 {
-            if i == SatBox::SESSIONS {
-                break 'draw n;
+        if n != 0 {
+            for i in 0..=SatBox::SESSIONS {
+                if i == SatBox::SESSIONS {
+                    break 'draw n;
+                }
+                if sessions[i].number == n {
+                    break;
+                }
             }
-            if sessions[i].number == n {
-                break;
-            }
-            i += 1;
         }
         n = std::num::wrapping_add_u32(n, 1);
     }
@@ -155,13 +114,12 @@ pub fn draw(sessions: &[Session; 32], draw: u32) -> u32
 pub fn count_open(sessions: &[Session; 32]) -> u32
     ensures { (result ≡ count is_open sessions.now) × (result ≤ 32) }
 {
+    // A `for`: `filter` and `count` took 134 to 294 instructions more.
     let mut n = 0;
-    let mut i = 0;
-    while i < SatBox::SESSIONS {
-        if sessions[i].number != 0 {
+    for s in sessions {
+        if s.number != 0 {
             n += 1;
         }
-        i += 1;
     }
     n
 }

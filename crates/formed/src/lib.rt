@@ -111,10 +111,8 @@ fn are_owned(feeds: &[u32], owners: &[u32]) -> bool
         → ((id : ℕ) → id < 9 → get_or owners.now id 0 ≡ count (owns id) l) → result ≡ are_owned l 1 ms }
 {
     let mut owned = true;
-    let mut id = 0;
-    while id < 9 {
+    for id in 0..9 {
         owned = owned & ((feeds[id] == 0) | (owners[id] == 1));
-        id += 1;
     }
     owned
 }
@@ -135,21 +133,16 @@ fn are_sound(streams: &[Stream; 8], settings: Settings, feeds: &mut [u32]) -> bo
     requires { feeds.old ≡ replicate 9 0 }
     ensures { (result ≡ all (is_placed settings) streams.now) × (result ≡ true → feeds.new ≡ 0 ∷ map (λ m. m.frontend) streams.now) }
 {
-    let mut k = 0;
-    while k < SatBox::STREAMS {
-        let feed = streams[k].frontend;
+    for (k, m) in streams.iter().enumerate() {
+        let feed = m.frontend;
         feeds[k + 1] = wide(feed);
         if feed == 0 {
-            if !stream::is_unused(streams[k]) {
+            if !stream::is_unused(*m) {
                 return false;
             }
-            k += 1;
-            continue;
-        }
-        if !is_placed(streams[k], settings) {
+        } else if !is_placed(*m, settings) {
             return false;
         }
-        k += 1;
     }
     true
 }
@@ -171,6 +164,7 @@ fn seats_of(
         && (eqb (held % 16) 0 && leb (held + 16 * count is_open sessions.now) size)))) (Some (oldest sessions.now)) None)
         × (is_some result ≡ true → (id : ℕ) → id < 9 → get_or owners.new id 0 ≡ count (owns id) sessions.now) }
 {
+    // A `while`: where it stops is not known before.
     let mut end = SatBox::SESSIONS;
     while 8 <= end {
         let from = end - 8;
@@ -179,12 +173,10 @@ fn seats_of(
         }
         let mut vacant = true;
         let mut bytes = 0u64;
-        let mut k = 0;
-        while k < 8 {
+        for k in 0..8 {
             let s = sessions[from + k];
             vacant = vacant & is_vacant(s);
             bytes += bytes_of(s);
-            k += 1;
         }
         if !(vacant & (bytes == 0)) {
             break;
@@ -194,10 +186,8 @@ fn seats_of(
     let mut numbers = [0u32; 32];
     let mut opens = 0;
     let mut oldest = LATEST;
-    let mut i = 0;
-    while i < end {
+    for i in 0..end {
         let s = sessions[i];
-        i += 1;
         if s.number == 0 {
             if !is_empty(s) {
                 return None;

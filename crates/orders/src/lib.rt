@@ -13,25 +13,13 @@ ghost use Rattle.orders.specs.Orders.{plays_as_owner, order_for, order_of};
 use stream::Stream;
 use table::{Refusal, SatBox, Session};
 
-fn is_feed(f: u8, n: u32) -> bool
-    ensures { result ≡ eqb f n }
-{
-    f as u32 == n
-}
-
 // The place of the stream that holds a frontend; 8 where none does.
 fn place_fed(streams: &[Stream; 8], n: u32) -> usize
     ensures first { FirstOf (λ (m : Stream). eqb m.frontend n) streams.now result }
     ensures sized { length streams.now ≡ 8 }
 {
-    let mut i = 0;
-    while i < SatBox::STREAMS {
-        if is_feed(streams[i].frontend, n) {
-            return i;
-        }
-        i += 1;
-    }
-    i
+    let place = streams.iter().position(|m| m.frontend as u32 == n);
+    place.unwrap_or(SatBox::STREAMS)
 }
 
 fn plays_as_owner(s: Session, id: u8) -> bool
@@ -44,14 +32,7 @@ fn plays_as_owner(s: Session, id: u8) -> bool
 fn is_played(sessions: &[Session; 32], id: u8) -> bool
     ensures { result ≡ any (plays_as_owner id) sessions.now }
 {
-    let mut k = 0;
-    while k < SatBox::SESSIONS {
-        if plays_as_owner(sessions[k], id) {
-            return true;
-        }
-        k += 1;
-    }
-    false
+    sessions.iter().any(|s| plays_as_owner(*s, id))
 }
 
 // The order for one of the box's frontends: its stream, where the values are all there and its owner plays.

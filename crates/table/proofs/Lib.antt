@@ -1,5 +1,6 @@
 pub mod Places
 pub mod NumberLaws
+pub mod Firsts
 pub mod Counts
 pub mod Fresh
 pub mod Sets

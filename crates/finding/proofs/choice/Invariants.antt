@@ -5,6 +5,3 @@ use Rattle.finding.proofs.choice.Given as goal
 
 abbrev pub invariant-loop-f : goal.invariant-loop-f
 invariant-loop-f l = (l.f ≤ 8) × ((t : SatBox) → FreeSets t l.sets → l.last ≡ t.settings.frontends → Choosing t l.source l.best l.least l.f)
-
-abbrev pub decreases-loop-f : goal.decreases-loop-f
-decreases-loop-f l = l.f

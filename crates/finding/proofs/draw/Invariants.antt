@@ -1,4 +1,4 @@
-use Rattle.std.proofs.Common.{◌≡◌, ℕ, ◌-◌, length}
+use Rattle.std.proofs.Common.{◌≡◌, ℕ, length}
 use Rattle.table.specs.Table.{has_number}
 use Rattle.finding.proofs.Draws.{Drawing, to_pass}
 use Rattle.table.proofs.NumberLaws.{Lacking}
@@ -6,9 +6,6 @@ use Rattle.finding.proofs.draw.Given as goal
 
 abbrev pub invariant-loop-i : goal.invariant-loop-i
 invariant-loop-i l = Lacking (has_number l.n) l.sessions l.i
-
-abbrev pub decreases-loop-i : goal.decreases-loop-i
-decreases-loop-i l = 32 - l.i
 
 abbrev pub invariant-draw : goal.invariant-draw
 invariant-draw l = (length l.sessions ≡ 32) × ((more : ℕ) × Drawing l.sessions l.draw l.n more)

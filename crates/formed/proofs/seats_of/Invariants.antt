@@ -1,13 +1,9 @@
-use Prim.Native.Nat.{◌-◌}
 use Rattle.formed.proofs.Vacant.{Clear, Clearing}
 use Rattle.formed.proofs.Seating.{Seating}
 use Rattle.formed.proofs.seats_of.Given as goal
 
 abbrev pub invariant-loop-k : goal.invariant-loop-k
 invariant-loop-k l = Clearing l.sessions l.from l.k l.vacant l.bytes
-
-abbrev pub decreases-loop-k : goal.decreases-loop-k
-decreases-loop-k l = 8 - l.k
 
 abbrev pub invariant-loop-end : goal.invariant-loop-end
 invariant-loop-end l = Clear l.sessions l.end
@@ -17,6 +13,3 @@ decreases-loop-end l = l.end
 
 abbrev pub invariant-loop-i : goal.invariant-loop-i
 invariant-loop-i l = Seating l.clock l.feeds l.sessions l.i l.numbers l.owners l.opens l.oldest
-
-abbrev pub decreases-loop-i : goal.decreases-loop-i
-decreases-loop-i l = l.end - l.i

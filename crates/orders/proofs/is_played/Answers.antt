@@ -1,13 +1,12 @@
-use mathlib.Core.Path.{sym, ◌∙◌}
-use native.Mathlib.Omega.{arith}
-use Rattle.table.specs.Table.{no_session}
-use Rattle.table.proofs.NumberLaws.{lacking_hit, lacking_end}
+use Rattle.std.proofs.Common.{rules, ◌∙◌}
+use Rattle.std.proofs.lemmas.Iterator.{YieldsList-from_slice}
+use Rattle.std.proofs.lemmas.Iterator.Search.{any_from_yields_List}
+use Rattle.table.proofs.Firsts.{any_same}
 use Rattle.orders.specs.Orders.{plays_as_owner}
 use Rattle.orders.proofs.is_played.Goals as goal
 
-pub returns-then-plays_as_owner : goal.returns-then-plays_as_owner
-returns-then-plays_as_owner c =
-    lacking_hit (plays_as_owner _) no_session c.loop-k.invariant.1 (omega arith) (sym c.plays_as_owner.ensures ∙ c.if-plays_as_owner.true)
-
 pub returns : goal.returns
-returns c = lacking_end _ c.loop-k.invariant.1 (omega arith)
+returns c =
+    let test = plays_as_owner c.args.id in
+    any_from_yields_List test _ _ c.any.result c.any.ensures.ran (YieldsList-from_slice _ c.iter.ensures.rest) (λ x b q k. search rules)
+    ∙ any_same test c.args.sessions.now
