@@ -1,13 +1,17 @@
 -- Sets of sources: what the code computes of one, and the walks over the sets of all frontends. Assumes nothing.
 use mathlib.Core.Path.{◌≡◌, refl, sym, ◌∙◌, ap}
 use mathlib.Core.Bool.{Bool, true, false, not, cond, ◌&&◌, and-true, and-false, beq}
-use mathlib.Core.List.{List, [], ◌∷◌}
-use Prim.Native.Nat.{ℕ, zero, suc, ◌+◌, ◌-◌, ◌/◌, ◌%◌, ◌^◌, ◌≤◌, ◌<◌}
+use mathlib.Core.List.{List, [], ◌∷◌, ◌++◌, append-nil}
+use Prim.Native.Nat.{ℕ, zero, suc, ◌+◌, ◌-◌, ◌/◌, ◌%◌, ◌^◌, ◌≤◌, ◌<◌, min}
+use native.Mathlib.Nat.{sub-zero}
 use native.Mathlib.Omega.{arith}
 use lib.Dec.{eqb, leb, ltb}
-use lib.ListN.{length, get_or, set, drop, length-set, get_or-eq_default}
+use lib.ListN.{length, get_or, take, drop, replicate, drop_of_length-le, get_or-eq_default}
+use lib.Seq.{take_all}
+use borrow.Rule.Slice.PartMut.{put_mid, mid_of, post_of, mid_len, Post-is}
+use native.Mathlib.Decide.{dec_lt}
 use borrow.Author.Tests.{lt-leb, le-leb, ltb-true, ltb-false, ne_eqb}
-use Rattle.scan.proofs.Bools.{Case, is, isnt, case, Same, same, other, sames}
+use Rattle.scan.proofs.Bools.{by_cases, Case, is, isnt, case, Same, same, other, sames}
 use Rattle.scan.specs.Lists.{is_between}
 use Rattle.scan.proofs.Loops.{turn, end}
 use Rattle.table.specs.Reach.{has_source, size_of, set_of, are_sets, up_to}
@@ -106,43 +110,26 @@ module _ {sets : List ℕ} {frontends : ℕ} {sound : Bool} {i : ℕ} (r : Looki
   looking_end h = sym (and-true sound) ∙ (sym (ap (λ b. sound && b) (end (are_sets (frontends - i)) sets i h)) ∙ r.same)
 
 -- ZEROS ABOVE F
-up_all : (n : ℕ) (sets : List ℕ) → length sets ≤ n → up_to n sets ≡ sets
-up_all n [] h = refl
-up_all zero (set ∷ sets) h = absurd (omega arith)
-up_all (suc n) (s ∷ sets) h = ap (λ l. s ∷ l) (up_all n sets (omega arith))
+up_none : (sets : List ℕ) → up_to zero sets ≡ replicate (length sets) 0
+up_none [] = refl
+up_none (set ∷ sets) = ap (λ l. 0 ∷ l) (up_none sets)
 
-up_less : (n : ℕ) (sets : List ℕ) → n < length sets → set (up_to (suc n) sets) n 0 ≡ up_to n sets
-up_less n [] h = absurd (omega arith)
-up_less zero (s ∷ sets) h = refl
-up_less (suc n) (s ∷ sets) h = ap (λ l. s ∷ l) (up_less n sets (omega arith))
+up_cut : (n : ℕ) (sets : List ℕ) → up_to n sets ≡ take n sets ++ replicate (length sets - n) 0
+up_cut zero sets = up_none sets ∙ rw sub-zero
+up_cut (suc n) [] = let z : 0 - suc n ≡ 0 = omega arith in rw z
+up_cut (suc n) (set ∷ sets) = let e : suc (length sets) - suc n ≡ length sets - n = omega arith in rw e (ap (λ l. set ∷ l) (up_cut n sets))
 
--- the sets from place i on are emptied
-pub record Emptying (sets : List ℕ) (frontends : ℕ) (now : List ℕ) (i : ℕ) : Type 0 where
-  pub within : i ≤ length sets
-  pub same : now ≡ up_to i sets
-  pub enough : i < frontends → i ≡ length sets
-  pub long : length now ≡ length sets
-
-module _ (sets : List ℕ) (frontends : ℕ) where
-  pub emptying_start : Emptying sets frontends sets (length sets)
-  emptying_start = record { within = omega arith; same = sym (up_all (length sets) sets (omega arith)); enough = λ h. refl; long = refl }
-
-  module _ {now : List ℕ} {i : ℕ} (r : Emptying sets frontends now i) where
-    pub emptying_more : frontends < i → Emptying sets frontends (set now (i - 1) 0) (i - 1)
-    emptying_more h =
-        let e : i ≡ suc (i - 1) = omega arith in
-        record {
-          within = omega (arith, r.within);
-          same = ap (λ l. set l (i - 1) 0) (r.same ∙ ap (λ k. up_to k sets) e) ∙ up_less (i - 1) sets (omega (arith, r.within));
-          enough = λ k. absurd (omega arith);
-          long = length-set now (i - 1) 0 ∙ r.long;
-        }
-
-    pub emptying_end : i ≤ frontends → now ≡ up_to frontends sets
-    emptying_end h = r.same ∙ by (sames i frontends)
-      where
-        by : Same i frontends → up_to i sets ≡ up_to frontends sets
-        by (same q) = ap (λ k. up_to k sets) q
-        by (other q) =
-            let e = r.enough (omega arith) in
-            up_all i sets (omega (arith, e)) ∙ sym (up_all frontends sets (omega (arith, e)))
+-- the sets from place m on are emptied
+pub emptied : (n : ℕ) (sets zeros : List ℕ) {m : ℕ} → m ≡ min n (length sets) → zeros ≡ replicate (length (mid_of m (length sets - m) sets)) 0
+    → put_mid m (length sets - m) sets zeros ≡ up_to n sets
+emptied n sets zeros {m} e z =
+    let k : m ≤ length sets = omega arith in
+    let l : length (mid_of m (length sets - m) sets) ≡ length sets - n = mid_len m (length sets) sets (omega arith) ∙ omega arith in
+    let p : post_of m (length sets - m) sets ≡ [] = Post-is m (length sets) sets k ∙ drop_of_length-le sets (omega arith) in
+    let t : take m sets ≡ take n sets = min_take in
+    rw (p, append-nil zeros, z, l, t, up_cut n sets)
+  where
+    min_take : take m sets ≡ take n sets
+    min_take = by_cases (dec_lt n (length sets))
+        (λ h. let q : m ≡ n = omega arith in rw q)
+        (λ h. let q : m ≡ length sets = omega arith in rw q (take_all (length sets) sets (omega arith) ∙ sym (take_all n sets (omega arith))))

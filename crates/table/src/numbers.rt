@@ -7,10 +7,8 @@ pub fn is_among(ns: &[u32], n: u32) -> bool
     ensures { result ≡ is_among n ns.now }
 {
     let mut found = false;
-    let mut i = 0;
-    while i < ns.len() {
-        found = found | (ns[i] == n);
-        i += 1;
+    for m in ns {
+        found |= *m == n;
     }
     found
 }
@@ -19,14 +17,8 @@ pub fn is_among(ns: &[u32], n: u32) -> bool
 pub fn are_distinct(ns: &[u32]) -> bool
     ensures { result ≡ are_distinct ns.now }
 {
-    let mut i = 0;
-    while i < ns.len() {
-        let n = ns[i];
-        i += 1;
-        if n == 0 {
-            continue;
-        }
-        if is_among(&ns[i..], n) {
+    for (i, n) in ns.iter().enumerate() {
+        if *n != 0 && is_among(&ns[i + 1..], *n) {
             return false;
         }
     }

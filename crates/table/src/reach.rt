@@ -48,11 +48,8 @@ pub(crate) fn are_sets(reach: &[u8], frontends: usize) -> bool
     ensures { result ≡ are_sets frontends reach.now }
 {
     let mut sound = true;
-    let mut i = 0;
-    while i < reach.len() {
-        let set = reach[i];
-        sound = sound & (set <= ALL) & ((i < frontends) == (set != 0));
-        i += 1;
+    for (i, set) in reach.iter().enumerate() {
+        sound &= (*set <= ALL) & ((i < frontends) == (*set != 0));
     }
     sound
 }
@@ -61,9 +58,6 @@ pub(crate) fn are_sets(reach: &[u8], frontends: usize) -> bool
 pub(crate) fn clear_from(reach: &mut [u8], frontends: usize)
     ensures { reach.new ≡ up_to frontends reach.old }
 {
-    let mut i = reach.len();
-    while frontends < i {
-        i -= 1;
-        reach[i] = 0;
-    }
+    let from = frontends.min(reach.len());
+    reach[from..].fill(0);
 }
