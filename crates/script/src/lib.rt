@@ -1,14 +1,15 @@
-// What the programs read: their input as far as a buffer reaches, its lines, and the short form in which a line holds a request. Every function but
-// the first has an answer for all bytes and all places, and looks at each byte at most once, `place_among` once for each word that is as long.
+// What the programs read: their input as far as a buffer reaches, its lines, a line's words, and the short form in which a line holds a request.
+// Every function but the first has an answer for all bytes, and looks at each byte at most once.
 #![tactic(auto)]
 
 ghost use Rattle.std.specs.Io.{ReadsAtMost};
 ghost use Rattle.std.specs.Prelude.{◌≡◌};
 ghost use Rattle.writing.specs.Wrote.{Wrote};
-ghost use Rattle.scan.specs.Text.{place_among};
-ghost use Rattle.script.specs.Lines.{line_at, stands_for, unfolded};
+ghost use Rattle.scan.specs.Text.{before, after};
+ghost use Rattle.std.specs.Iterator.{YieldsFirstRef, item_count};
+ghost use Rattle.script.specs.Lines.{lines_of, stands_for, unfolded};
 
-use scan::{Case, Class};
+use scan::Class;
 use std::io::{self, Read};
 
 // Reads until a buffer is full or the input ends, and returns how many bytes are at the buffer's front. A read that fails ends it with that error;
@@ -27,27 +28,60 @@ pub fn read_full(input: &mut impl Read, buffer: &mut [u8]) -> io::Result<usize>
     Ok(done)
 }
 
-// The line that starts at a place, without its LF; an empty one where the text ends before it.
-pub fn line(s: &[u8], at: usize) -> &[u8]
-    ensures { result.now ≡ line_at at s.now }
+// What stands before the first byte of some kind, and what behind it; all of a text and nothing where it has no such byte.
+fn parted(text: &[u8], separator: u8) -> (&[u8], &[u8])
+    ensures front { result.0.now ≡ before separator text.now }
+    ensures behind { result.1.now ≡ after separator text.now }
 {
-    if s.len() < at {
-        return &s[0..0];
+    let (front, behind) = text.split_at(scan::first_in(text, Class::Is(separator)));
+    (front, behind.get(1..).unwrap_or(&[]))
+}
+
+// What is left of a text, gone through line by line: each comes without its LF, and behind the last LF comes one only where bytes stand.
+#[derive(Drop)]
+pub struct Lines<'a>(pub &'a [u8]);
+
+impl<'a> Iterator for Lines<'a> {
+    type Item = &'a [u8];
+
+    ghost next_gives = { YieldsFirstRef (λ lines. lines_of lines.0.now) };
+
+    ghost remaining = { item_count (λ lines. lines_of lines.0.now) };
+
+    fn next(&mut self) -> Option<&'a [u8]> {
+        if self.0.is_empty() {
+            return None;
+        }
+        let (line, left) = parted(self.0, b'\n');
+        self.0 = left;
+        Some(line)
     }
-    let e = scan::first_from(s, at, Class::Is(b'\n'));
-    &s[at..e]
+}
+
+// What is left of a line, gone through word by word: words have one space between each two.
+#[derive(Drop)]
+pub struct Words<'a>(pub &'a [u8]);
+
+impl<'a> Words<'a> {
+    // The next word; an empty one where none is left.
+    pub fn word(&mut self) -> &'a [u8]
+        ensures word { result.now ≡ before 32 self.old.0.now }
+        ensures left { self.new.0.now ≡ after 32 self.old.0.now }
+    {
+        let (word, left) = parted(self.0, b' ');
+        self.0 = left;
+        word
+    }
 }
 
 // Puts what one byte stands for, and returns the place after it.
 fn unfold_byte(buf: &mut [u8], at: usize, b: u8) -> usize
     ensures { Wrote buf.old at (stands_for b) buf.new result }
 {
-    let run = [b'a'; 100];
-    let one = [b; 1];
     match b {
         b'|' => writing::put(buf, at, b"\r\n"),
-        b'^' => writing::put(buf, at, &run),
-        _ => writing::put(buf, at, &one),
+        b'^' => writing::put(buf, at, &[b'a'; 100]),
+        _ => writing::put(buf, at, &[b]),
     }
 }
 
@@ -57,27 +91,8 @@ pub fn unfold(buf: &mut [u8], s: &[u8]) -> usize
     ensures { Wrote buf.old 0 (unfolded s.now) buf.new result }
 {
     let mut at = 0;
-    let mut i = 0;
-    while i < s.len() {
-        at = unfold_byte(buf, at, s[i]);
-        i += 1;
+    for &b in s {
+        at = unfold_byte(buf, at, b);
     }
     at
-}
-
-// The place of a text among words that have a space between each two; how many words there are where it is none of them.
-pub fn place_among(words: &[u8], s: &[u8], case: Case) -> usize
-    ensures { result ≡ place_among case words.now s.now }
-{
-    let mut n = 0;
-    let mut p = 0;
-    while p <= words.len() {
-        let e = scan::first_from(words, p, Class::Is(b' '));
-        if scan::are_alike(&words[p..e], s, case) {
-            return n;
-        }
-        n += 1;
-        p = e + 1;
-    }
-    n
 }
