@@ -2,32 +2,21 @@
 use digits::Read;
 use std::io;
 
-pub(crate) fn text(rt: &impl Print, s: &[u8]) -> io::Result<()> {
-    rt.write_all(s)
+// Bytes in brackets.
+pub(crate) fn bracketed(rt: &impl Print, bytes: &[u8]) -> io::Result<()> {
+    print!(rt; "[")?;
+    rt.write_all(bytes)?;
+    print!(rt; "]")
 }
 
-pub(crate) fn number(rt: &impl Print, v: u32) -> io::Result<()> {
-    let mut digits = [0u8; 10];
-    let n = writing::put_decimal(&mut digits, 0, v);
-    if n <= 10 {
-        text(rt, &digits[0..n])?;
-    }
-    Ok(())
-}
-
-pub(crate) fn read(rt: &impl Print, label: &[u8], r: Read) -> io::Result<()> {
-    text(rt, label)?;
-    match r {
-        Read::Value(v) => number(rt, v),
-        Read::Nothing => text(rt, b"-"),
+// What was read; a hyphen where nothing was.
+pub(crate) fn read(rt: &impl Print, label: &str, read: Read) -> io::Result<()> {
+    match read {
+        Read::Value(v) => print!(rt; "{label}{v}"),
+        Read::Nothing => print!(rt; "{label}-"),
     }
 }
 
-pub(crate) fn test(rt: &impl Print, label: &[u8], is: bool) -> io::Result<()> {
-    text(rt, label)?;
-    if is {
-        text(rt, b"yes")
-    } else {
-        text(rt, b"no")
-    }
+pub(crate) fn yes_or_no(is: bool) -> &'static str {
+    if is { "yes" } else { "no" }
 }
