@@ -1,5 +1,0 @@
-use Rattle.std.proofs.Common.{◌-◌}
-use Rattle.readings.proofs.requests.run.Given as goal
-
-abbrev pub decreases-loop-p : goal.decreases-loop-p
-decreases-loop-p g l = l.n - l.p
