@@ -1,50 +1,128 @@
-// The script, line by line: each line is a command by its first word, and any other line is only shown.
-use crate::{asking, calls, fields, out, show, words};
-use scan::Case;
-use std::io;
-use table::SatBox;
+// The commands of the script: the first word of a line says which it is.
+use crate::fields::{self, Setting};
+use digits::{Read, Zeros};
+use script::Words;
+use table::{SatBox, Settings};
 
-fn show_table(rt: &impl Print, t: SatBox) -> io::Result<SatBox> {
-    show::table(rt, t)?;
-    Ok(t)
-}
+// Where clients come from: the number in a line is added to 192.168.178.0.
+pub(crate) const NETWORK: u32 = 0xC0A8B200;
 
-// `journal FROM TO`
-fn show_journal(rt: &impl Print, t: SatBox, journal: &[u8], line: &[u8]) -> io::Result<SatBox> {
-    show::records(rt, journal, words::number(line, 1), words::number(line, 2))?;
-    Ok(t)
-}
-
-fn command(rt: &impl Print, t: SatBox, journal: &mut [u8], line: &[u8]) -> io::Result<SatBox> {
-    let place = script::place_among(
-        b"box ask lend tick collect order set spoil table journal",
-        words::word(line, 0),
-        Case::Counts,
-    );
-    match place {
-        0 => calls::make(rt, journal, line),
-        1 => asking::ask(rt, t, journal, line),
-        2 => asking::lend(rt, t, journal, line),
-        3 => calls::tick(rt, t, journal, line),
-        4 => calls::collect(rt, t, journal, line),
-        5 => calls::order(rt, t, line),
-        6 => Ok(fields::set(t, line)),
-        7 => calls::spoil(rt, t, journal, line),
-        8 => show_table(rt, t),
-        9 => show_journal(rt, t, journal, line),
-        _ => Ok(t),
+// The number that the next word is, if it is one.
+fn given(words: &mut Words<'_>) -> Option<u32> {
+    match digits::number(words.word(), Zeros::Allowed, 10, u32::MAX) {
+        Read::Value(v) => Some(v),
+        Read::Nothing => None,
     }
 }
 
-pub(crate) fn play(rt: &impl Print, input: &[u8], journal: &mut [u8]) -> io::Result<()> {
-    let mut t = calls::NO_BOX;
-    let mut p = 0;
-    while p < input.len() {
-        let line = script::line(input, p);
-        out::text(rt, line)?;
-        out::text(rt, b"\n")?;
-        t = command(rt, t, journal, line)?;
-        p += line.len() + 1;
+// The same, or 0.
+pub(crate) fn number(words: &mut Words<'_>) -> u32 {
+    given(words).unwrap_or(0)
+}
+
+// A request in its short form, and when, by whom and with which draw it is sent.
+#[derive(Drop)]
+pub(crate) struct Asking<'a> {
+    pub(crate) clock: u32,
+    pub(crate) address: u32,
+    pub(crate) draw: u32,
+    pub(crate) request: &'a [u8],
+}
+
+impl<'a> Asking<'a> {
+    fn read(words: &mut Words<'a>) -> Self {
+        Asking {
+            clock: number(words),
+            address: NETWORK.wrapping_add(number(words)),
+            draw: number(words),
+            request: words.0,
+        }
     }
-    Ok(())
+}
+
+// A length of a journal that is lent is given only where it is not the box's.
+#[derive(Drop)]
+pub(crate) enum Command<'a> {
+    // `box F C`, and the set of sources of each frontend from the first on where it does not reach all four
+    Make(Settings),
+    // `ask CLOCK CLIENT DRAW` and a request; `lend ANSWER JOURNAL` and an `ask`, which is lent buffers of these lengths
+    Ask {
+        answer: u32,
+        journal: Option<u32>,
+        asking: Asking<'a>,
+    },
+    // `tick CLOCK JOURNAL`
+    Tick { clock: u32, journal: Option<u32> },
+    // `collect LENGTH JOURNAL`
+    Collect { length: u32, journal: Option<u32> },
+    // `order FRONTEND`
+    Order(u32),
+    // `set FIELD PLACE VALUE ENTRY`
+    Set(Setting<'a>),
+    // `spoil`, as `set`, for a look at what the calls say to such a table, and at what they leave of the buffers
+    Spoil(Setting<'a>),
+    // `table`
+    Table,
+    // `journal FROM TO`
+    Journal { from: u32, to: u32 },
+}
+
+impl<'a> Command<'a> {
+    // The command on a line; any other line is only shown.
+    pub(crate) fn read(line: &'a [u8]) -> Option<Self> {
+        let words = &mut Words(line);
+        let command = match words.word() {
+            b"box" => Command::Make(settings(words)),
+            b"ask" => Command::Ask {
+                answer: SatBox::ANSWER as u32,
+                journal: None,
+                asking: Asking::read(words),
+            },
+            b"lend" => lending(words),
+            b"tick" => Command::Tick {
+                clock: number(words),
+                journal: given(words),
+            },
+            b"collect" => Command::Collect {
+                length: number(words),
+                journal: given(words),
+            },
+            b"order" => Command::Order(number(words)),
+            b"set" => Command::Set(Setting::read(words)),
+            b"spoil" => Command::Spoil(Setting::read(words)),
+            b"table" => Command::Table,
+            b"journal" => Command::Journal {
+                from: number(words),
+                to: number(words),
+            },
+            _ => return None,
+        };
+        Some(command)
+    }
+}
+
+fn settings(words: &mut Words<'_>) -> Settings {
+    let frontends = fields::medium(number(words));
+    let size = number(words);
+    let mut reach = [15; 8];
+    for set in &mut reach {
+        *set = fields::small(given(words).unwrap_or(15));
+    }
+    Settings {
+        size,
+        frontends,
+        spare: 0,
+        reach,
+    }
+}
+
+fn lending<'a>(words: &mut Words<'a>) -> Command<'a> {
+    let answer = number(words);
+    let journal = Some(number(words));
+    let _ask = words.word();
+    Command::Ask {
+        answer,
+        journal,
+        asking: Asking::read(words),
+    }
 }

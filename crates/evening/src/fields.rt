@@ -1,129 +1,113 @@
 // One field of a table set by hand, as no call sets it.
-use crate::words;
-use scan::Case;
+use crate::commands::number;
+use script::Words;
 use stream::{Stream, Values};
 use table::{SatBox, Session, Settings};
 
+// A number as far as a byte reaches.
 pub(crate) fn small(v: u32) -> u8 {
-    if v < 255 { v as u8 } else { 255 }
+    u8::try_from(v).unwrap_or(u8::MAX)
 }
 
 pub(crate) fn medium(v: u32) -> u16 {
-    if v < 65535 { v as u16 } else { 65535 }
+    u16::try_from(v).unwrap_or(u16::MAX)
 }
 
-fn in_session(s: Session, field: usize, v: u32) -> Session {
-    let mut r = s;
-    match field {
-        0 => r.number = v,
-        1 => r.address = v,
-        2 => r.last = v,
-        3 => r.port = v,
-        4 => r.stream = small(v),
-        5 => r.owner = small(v),
-        _ => r.playing = medium(v),
-    }
-    r
+// The field, the place of the session, the stream or the frontend, the value, and of a PID its place in the list.
+#[derive(Drop)]
+pub(crate) struct Setting<'a> {
+    pub(crate) field: &'a [u8],
+    pub(crate) place: usize,
+    pub(crate) value: u32,
+    pub(crate) entry: usize,
 }
 
-fn in_values(values: Values, field: usize, v: u32) -> Values {
-    let mut r = values;
-    match field {
-        7 => r.src = v,
-        8 => r.freq = v,
-        9 => r.pol = v,
-        10 => r.msys = v,
-        11 => r.mtype = v,
-        12 => r.plts = v,
-        13 => r.ro = v,
-        14 => r.sr = v,
-        _ => r.fec = v,
-    }
-    r
-}
-
-fn in_pids(m: Stream, entry: usize, v: u32) -> Stream {
-    let mut r = m;
-    if entry < 32 {
-        r.pids[entry] = medium(v);
-    }
-    r
-}
-
-fn in_stream(m: Stream, field: usize, v: u32, entry: usize) -> Stream {
-    let mut r = m;
-    match field {
-        16 => r.count = medium(v),
-        17 => r.frontend = small(v),
-        18 => r.all = small(v),
-        19 => r = in_pids(m, entry, v),
-        _ => {
-            let values = in_values(m.values, field, v);
-            r.values = values;
+impl<'a> Setting<'a> {
+    pub(crate) fn read(words: &mut Words<'a>) -> Self {
+        Setting {
+            field: words.word(),
+            place: number(words) as usize,
+            value: number(words),
+            entry: number(words) as usize,
         }
     }
-    r
 }
 
-fn in_reach(settings: Settings, place: usize, v: u32) -> Settings {
-    let mut r = settings;
-    if place < 8 {
-        r.reach[place] = small(v);
-    }
-    r
-}
-
-fn in_box(t: SatBox, field: usize, place: usize, v: u32) -> SatBox {
-    let mut u = t;
-    match field {
-        20 => u.settings.size = v,
-        21 => u.held = v,
-        22 => u.clock = v,
-        23 => u.sequence = medium(v),
-        24 => {
-            let frontends = medium(v);
-            u.settings.frontends = frontends;
+impl Setting<'_> {
+    // Sets the field. Sessions, streams and the box have no two fields of one name; a name that none has sets nothing.
+    pub(crate) fn apply(&self, t: &mut SatBox) {
+        if let Some(session) = t.sessions.get_mut(self.place) {
+            self.apply_to_session(session);
         }
-        25 => {
-            let settings = in_reach(t.settings, place, v);
-            u.settings = settings;
+        if let Some(stream) = t.streams.get_mut(self.place) {
+            self.apply_to_stream(stream);
+            self.apply_to_values(&mut stream.values);
         }
-        _ => {}
+        self.apply_to_settings(&mut t.settings);
+        self.apply_to_box(t);
     }
-    u
-}
 
-fn set_session(t: SatBox, place: usize, field: usize, v: u32) -> SatBox {
-    let mut u = t;
-    if place < SatBox::SESSIONS {
-        u.sessions[place] = in_session(t.sessions[place], field, v);
+    fn apply_to_session(&self, s: &mut Session) {
+        match self.field {
+            b"number" => s.number = self.value,
+            b"address" => s.address = self.value,
+            b"last" => s.last = self.value,
+            b"port" => s.port = self.value,
+            b"stream" => s.stream = small(self.value),
+            b"owner" => s.owner = small(self.value),
+            b"playing" => s.playing = medium(self.value),
+            _ => {}
+        }
     }
-    u
-}
 
-fn set_stream(t: SatBox, place: usize, field: usize, v: u32, entry: usize) -> SatBox {
-    let mut u = t;
-    if place < SatBox::STREAMS {
-        u.streams[place] = in_stream(t.streams[place], field, v, entry);
+    fn apply_to_stream(&self, m: &mut Stream) {
+        match self.field {
+            b"count" => m.count = medium(self.value),
+            b"frontend" => m.frontend = small(self.value),
+            b"all" => m.all = small(self.value),
+            b"pids" => {
+                if let Some(pid) = m.pids.get_mut(self.entry) {
+                    *pid = medium(self.value);
+                }
+            }
+            _ => {}
+        }
     }
-    u
-}
 
-// Sets what a line names: the field, the place of the session or stream, the value, and of a PID its place in the list.
-pub(crate) fn set(t: SatBox, line: &[u8]) -> SatBox {
-    let field = script::place_among(
-        b"number address last port stream owner playing src freq pol msys mtype plts ro sr fec count frontend all pids size held clock sequence frontends reach",
-        words::word(line, 1),
-        Case::Counts,
-    );
-    let place = words::number(line, 2) as usize;
-    let v = words::number(line, 3);
-    let entry = words::number(line, 4) as usize;
-    if field < 7 {
-        return set_session(t, place, field, v);
+    fn apply_to_values(&self, values: &mut Values) {
+        match self.field {
+            b"src" => values.src = self.value,
+            b"freq" => values.freq = self.value,
+            b"pol" => values.pol = self.value,
+            b"msys" => values.msys = self.value,
+            b"mtype" => values.mtype = self.value,
+            b"plts" => values.plts = self.value,
+            b"ro" => values.ro = self.value,
+            b"sr" => values.sr = self.value,
+            b"fec" => values.fec = self.value,
+            _ => {}
+        }
     }
-    if field < 20 {
-        return set_stream(t, place, field, v, entry);
+
+    fn apply_to_settings(&self, settings: &mut Settings) {
+        match self.field {
+            b"size" => settings.size = self.value,
+            b"frontends" => settings.frontends = medium(self.value),
+            b"reach" => {
+                if let Some(set) = settings.reach.get_mut(self.place) {
+                    *set = small(self.value);
+                }
+            }
+            _ => {}
+        }
     }
-    in_box(t, field, place, v)
+
+    fn apply_to_box(&self, t: &mut SatBox) {
+        match self.field {
+            b"held" => t.held = self.value,
+            b"clock" => t.clock = self.value,
+            b"sequence" => t.sequence = medium(self.value),
+            _ => {}
+        }
+    }
 }

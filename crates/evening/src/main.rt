@@ -2,23 +2,27 @@
 // `stdout` says what that must be.
 #![tactic(auto)]
 
-mod asking;
-mod calls;
 mod commands;
 mod fields;
 mod lent;
-mod out;
+mod player;
 mod show;
-mod words;
 
+use commands::Command;
+use player::Player;
+use script::Lines;
 use std::io;
 
 fn main(rt: HostRuntime) -> io::Result<()> {
     let mut input = [0u8; 131072];
-    let mut journal = [0u8; 65536];
     let n = script::read_full(&mut rt.stdin(), &mut input)?;
-    if n <= 131072 {
-        commands::play(&rt, &input[0..n], &mut journal)?;
+    let mut player = Player::new(&rt);
+    for line in Lines(&input[..n]) {
+        rt.write_all(line)?;
+        println!(rt; "")?;
+        if let Some(command) = Command::read(line) {
+            player.play(command)?;
+        }
     }
     Ok(())
 }

@@ -1,155 +1,105 @@
 // A table, a call's outcome and what it wrote, in words and numbers.
-use crate::out;
+use std::fmt;
 use std::io;
+use std::net::Ipv4Addr;
 use stream::{Stream, Values};
-use table::{Refusal, SatBox, Session, Settings};
-
-pub(crate) fn refused(rt: &impl Print, label: &[u8], why: Refusal) -> io::Result<()> {
-    out::text(rt, label)?;
-    out::number(rt, b" refused ", table::number(why) as u32)
-}
+use table::{Refusal, SatBox, Session};
 
 pub(crate) fn outcome<T: Copy>(
     rt: &impl Print,
-    label: &[u8],
+    label: &str,
     outcome: Result<T, Refusal>,
 ) -> io::Result<()> {
     match outcome {
-        Ok(_) => {
-            out::text(rt, label)?;
-            out::text(rt, b" done")
+        Ok(_) => print!(rt; "{label} done"),
+        Err(why) => {
+            let number = table::number(why);
+            print!(rt; "{label} refused {number}")
         }
-        Err(why) => refused(rt, label, why),
     }
 }
 
 // The numbers that a call may move, to the end of the line.
-pub(crate) fn state(rt: &impl Print, t: SatBox) -> io::Result<()> {
-    out::text(rt, b",")?;
-    out::numbers(
-        rt,
-        b"clock sequence held open",
-        &[
-            t.clock,
-            t.sequence as u32,
-            t.held,
-            finding::count_open(&t.sessions),
-        ],
-    )?;
-    out::text(rt, b"\n")
+pub(crate) fn state(rt: &impl Print, t: &SatBox) -> io::Result<()> {
+    let open = finding::count_open(&t.sessions);
+    println!(rt; ", clock {} sequence {} held {} open {open}", t.clock, t.sequence, t.held)
 }
 
-// The records that a call wrote behind those that were held before it.
-pub(crate) fn records(rt: &impl Print, journal: &[u8], before: u32, after: u32) -> io::Result<()> {
-    let a = before as usize;
-    let e = after as usize;
-    if a <= e {
-        if e <= journal.len() {
-            out::rows(rt, &journal[a..e])?;
+// Bytes in hexadecimal, each after a space.
+#[derive(Drop)]
+struct Hex<'a>(&'a [u8]);
+
+impl fmt::Display for Hex<'_> {
+    fn fmt<W: fmt::Write>(&self, f: &mut fmt::Formatter<W>) -> fmt::Result {
+        for byte in self.0 {
+            write!(f, " {byte:02X}")?;
         }
+        Ok(())
+    }
+}
+
+// The records in some bytes of a journal: a line for each, for bytes that are no whole record too.
+pub(crate) fn records(rt: &impl Print, bytes: &[u8]) -> io::Result<()> {
+    for record in bytes.chunks(16) {
+        println!(rt; " {}", Hex(record))?;
     }
     Ok(())
 }
 
-pub(crate) fn session(rt: &impl Print, s: Session) -> io::Result<()> {
-    out::hex(rt, b" session ", s.number)?;
-    out::numbers(
-        rt,
-        b"stream owner playing last port",
-        &[
-            s.stream as u32,
-            s.owner as u32,
-            s.playing as u32,
-            s.last,
-            s.port,
-        ],
-    )?;
-    out::address(rt, b" address ", s.address)
+fn session(rt: &impl Print, place: usize, s: &Session) -> io::Result<()> {
+    print!(rt; "  place {place} session {:08X} stream {} owner {}", s.number, s.stream, s.owner)?;
+    print!(rt; " playing {} last {} port {}", s.playing, s.last, s.port)?;
+    println!(rt; " address {}", Ipv4Addr::from_bits(s.address))
 }
 
-fn values(rt: &impl Print, v: Values) -> io::Result<()> {
-    out::numbers(
-        rt,
-        b"src freq pol msys mtype plts ro sr fec",
-        &[
-            v.src, v.freq, v.pol, v.msys, v.mtype, v.plts, v.ro, v.sr, v.fec,
-        ],
-    )
+fn values(rt: &impl Print, v: &Values) -> io::Result<()> {
+    print!(rt; " src {} freq {} pol {} msys {} mtype {}", v.src, v.freq, v.pol, v.msys, v.mtype)?;
+    print!(rt; " plts {} ro {} sr {} fec {}", v.plts, v.ro, v.sr, v.fec)
 }
 
-// The first PIDs of an array.
-fn pids(rt: &impl Print, m: Stream) -> io::Result<()> {
-    let list = m.pids;
-    let count = m.count as usize;
-    let mut i = 0;
-    while i < 32 {
-        if i < count {
-            out::number(rt, b" ", list[i] as u32)?;
-        }
-        i += 1;
+// What a frontend is to be set to, with the first PIDs of the array.
+pub(crate) fn stream(rt: &impl Print, m: &Stream) -> io::Result<()> {
+    print!(rt; " frontend {}", m.frontend)?;
+    values(rt, &m.values)?;
+    print!(rt; " all {} pids {}:", m.all, m.count)?;
+    for pid in m.pids.iter().take(m.count as usize) {
+        print!(rt; " {pid}")?;
     }
     Ok(())
-}
-
-pub(crate) fn stream(rt: &impl Print, m: Stream) -> io::Result<()> {
-    let v = m.values;
-    out::number(rt, b" frontend ", m.frontend as u32)?;
-    values(rt, v)?;
-    out::numbers(rt, b"all pids", &[m.all as u32, m.count as u32])?;
-    out::text(rt, b":")?;
-    pids(rt, m)
 }
 
 // A line for each open session.
-fn sessions(rt: &impl Print, t: SatBox) -> io::Result<()> {
-    let mut i = 0;
-    while i < SatBox::SESSIONS {
-        let s = t.sessions[i];
+fn sessions(rt: &impl Print, t: &SatBox) -> io::Result<()> {
+    for (place, s) in t.sessions.iter().enumerate() {
         if s.number != 0 {
-            out::number(rt, b"  place ", i as u32)?;
-            session(rt, s)?;
-            out::text(rt, b"\n")?;
+            session(rt, place, s)?;
         }
-        i += 1;
     }
     Ok(())
 }
 
 // A line for each live stream, with its ID.
-fn streams(rt: &impl Print, t: SatBox) -> io::Result<()> {
-    let mut i = 0;
-    while i < SatBox::STREAMS {
-        let m = t.streams[i];
-        i += 1;
+fn streams(rt: &impl Print, t: &SatBox) -> io::Result<()> {
+    for (place, m) in t.streams.iter().enumerate() {
         if m.frontend != 0 {
-            out::number(rt, b"  stream ", i as u32)?;
+            print!(rt; "  stream {}", place + 1)?;
             stream(rt, m)?;
-            out::text(rt, b"\n")?;
+            println!(rt; "")?;
         }
     }
     Ok(())
 }
 
-// The set of each frontend, by its place.
-fn reach(rt: &impl Print, settings: Settings) -> io::Result<()> {
-    let reach = settings.reach;
-    out::text(rt, b" reach")?;
-    let mut i = 0;
-    while i < 8 {
-        out::number(rt, b" ", reach[i] as u32)?;
-        i += 1;
+pub(crate) fn table(rt: &impl Print, t: &SatBox) -> io::Result<()> {
+    let settings = t.settings;
+    print!(rt; "  frontends {} size {} reach", settings.frontends, settings.size)?;
+    for set in &settings.reach {
+        print!(rt; " {set}")?;
     }
-    Ok(())
-}
-
-pub(crate) fn table(rt: &impl Print, t: SatBox) -> io::Result<()> {
-    out::number(rt, b"  frontends ", t.settings.frontends as u32)?;
-    out::number(rt, b" size ", t.settings.size)?;
-    reach(rt, t.settings)?;
-    if formed::standing_of(&t).is_some() {
-        out::text(rt, b", well formed")?;
+    if formed::standing_of(t).is_some() {
+        print!(rt; ", well formed")?;
     } else {
-        out::text(rt, b", not well formed")?;
+        print!(rt; ", not well formed")?;
     }
     state(rt, t)?;
     sessions(rt, t)?;
