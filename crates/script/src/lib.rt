@@ -1,15 +1,15 @@
 // What the programs read: their input as far as a buffer reaches, its lines, a line's words, and the short form in which a line holds a request.
-// Every function but the first has an answer for all bytes, and looks at each byte at most once.
+// Every function but the first has an answer for all bytes, and looks at each byte at most once, `place_among` once for each word that is as long.
 #![tactic(auto)]
 
 ghost use Rattle.std.specs.Io.{ReadsAtMost};
 ghost use Rattle.std.specs.Prelude.{◌≡◌};
 ghost use Rattle.writing.specs.Wrote.{Wrote};
-ghost use Rattle.scan.specs.Text.{before, after};
+ghost use Rattle.scan.specs.Text.{before, after, place_among};
 ghost use Rattle.std.specs.Iterator.{YieldsFirstRef, item_count};
 ghost use Rattle.script.specs.Lines.{lines_of, stands_for, unfolded};
 
-use scan::Class;
+use scan::{Case, Class};
 use std::io::{self, Read};
 
 // Reads until a buffer is full or the input ends, and returns how many bytes are at the buffer's front. A read that fails ends it with that error;
@@ -95,4 +95,22 @@ pub fn unfold(buf: &mut [u8], s: &[u8]) -> usize
         at = unfold_byte(buf, at, b);
     }
     at
+}
+
+// The place of a text among words that have a space between each two; how many words there are where it is none of them. The pieces are cut at
+// places, as its meaning says it of a text that ends in a space too: an empty word more.
+pub fn place_among(words: &[u8], s: &[u8], case: Case) -> usize
+    ensures { result ≡ place_among case words.now s.now }
+{
+    let mut n = 0;
+    let mut p = 0;
+    while p <= words.len() {
+        let e = scan::first_from(words, p, Class::Is(b' '));
+        if scan::are_alike(&words[p..e], s, case) {
+            return n;
+        }
+        n += 1;
+        p = e + 1;
+    }
+    n
 }
