@@ -18,8 +18,7 @@ use Rattle.target.specs.Uri.{is_uri, has_query, query_of}
 use Rattle.target.specs.declared.Uri.{Uri}
 use Rattle.aim.specs.Query.{are_parts, text_in, code_from, code_in}
 use Rattle.aim.specs.Found.{is_within, is_query, text_of, QueryIs, Reached, Refuses, unasked, verdict_of, is_span, AimIs, judged, takes_no_query, lacks_stream}
-use Rattle.std.specs.Prelude.{Option, Some, None, Result, Ok, Err, MatchResult}
-use Rattle.std.specs.Option.{is_some, MatchOption, ok_or}
+use Rattle.std.specs.Prelude.{Option, Some, None, Result, Ok, Err, MatchResult, is_some, MatchOption, ok_or}
 use Rattle.std.specs.Bool.{then_some}
 use Rattle.target.specs.Steps.{question}
 use Rattle.refusals.specs.Refusals.{is_read}

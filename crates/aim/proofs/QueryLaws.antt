@@ -16,8 +16,7 @@ use Rattle.scan.specs.declared.Span.{Span}
 use Rattle.scan.proofs.Bools.{never, by_test, by_cases}
 use Rattle.scan.proofs.Cuts.{cut_start, cut_turn, cut_end}
 use Rattle.scan.proofs.Parts.{part_length, part_part, part_rest, all_same, holds_nothing, some_text}
-use Rattle.digits.specs.Reading.{is_value}
-use Rattle.digits.specs.declared.Read.{Read}
+use Rattle.std.specs.Prelude.{Option, is_some}
 use Rattle.tuning.specs.Values.{attribute_of, value_of}
 use Rattle.aim.specs.Query.{attribute_in, are_parts, code_from, text_in, code_in}
 use Rattle.aim.specs.Found.{is_query, are_within, code_of, text_of, code_among, text_among, is_part, equals, part_value, is_named_before, is_within, start_among, start_of, PartHas, PartIs, QueryIs}
@@ -179,7 +178,7 @@ module _ {frontends : ℕ} {q : List ℕ} {p e : ℕ} {codes : List ℕ} {spans 
     few = let l : attribute_in (part p e q) < 13 = ltb-true (attribute_in (part p e q)) 13 i.known in omega (arith, i.attribute)
 
     -- a part that passes
-    module _ (new : (get_or spans r.attribute nowhere).end ≡ 0) {v : Read} (read : v ≡ value_of frontends r.attribute (part (p + r.value) e q)) where
+    module _ (new : (get_or spans r.attribute nowhere).end ≡ 0) {v : Option ℕ} (read : v ≡ value_of frontends r.attribute (part (p + r.value) e q)) where
       abbrev b : ℕ
       b = r.attribute
 
@@ -202,7 +201,7 @@ module _ {frontends : ℕ} {q : List ℕ} {p e : ℕ} {codes : List ℕ} {spans 
       abbrev here : Span
       here = record { start = p + r.value; end = e }
 
-      pub asking_more : Asking frontends q (e + 1) (set codes b (code_from v)) (set spans b here) (w && is_value v)
+      pub asking_more : Asking frontends q (e + 1) (set codes b (code_from v)) (set spans b here) (w && is_some v)
       unfolding start_of
       asking_more =
           record {
@@ -239,10 +238,10 @@ module _ {frontends : ℕ} {q : List ℕ} {p e : ℕ} {codes : List ℕ} {spans 
           assoc true y z = refl
           assoc false y z = refl
 
-          values : (w && is_value v) && all (is_within frontends) (cut_from 38 (e + 1) q) ≡ are_within frontends q
+          values : (w && is_some v) && all (is_within frontends) (cut_from 38 (e + 1) q) ≡ are_within frontends q
           values =
-              assoc w (is_value v) (all (is_within frontends) (cut_from 38 (e + 1) q))
-              ∙ ap (λ x. w && (x && all (is_within frontends) (cut_from 38 (e + 1) q))) (ap is_value (v_is ∙ ap (λ j. value_of frontends j (part_value (part p e q))) i.attribute))
+              assoc w (is_some v) (all (is_within frontends) (cut_from 38 (e + 1) q))
+              ∙ ap (λ x. w && (x && all (is_within frontends) (cut_from 38 (e + 1) q))) (ap is_some (v_is ∙ ap (λ j. value_of frontends j (part_value (part p e q))) i.attribute))
               ∙ ap (λ l. w && all (is_within frontends) l) (sym turned) ∙ k.values
 
           code_turned : (a : ℕ) → code_among frontends a (cut_from 38 p q) ≡ cond (eqb b a) (code_from (value_of frontends a (part_value (part p e q)))) (code_among frontends a (cut_from 38 (e + 1) q))

@@ -1,6 +1,5 @@
 -- Document 01, "The answer, first that applies", steps 7 to 10: of a request's URI. Assumes nothing.
-use Rattle.std.specs.Prelude.{ℕ, Bool, not, ◌&&◌, ◌||◌, List, [], ltb, eqb, length}
-use Rattle.digits.specs.Reading.{is_value}
+use Rattle.std.specs.Prelude.{ℕ, Bool, not, ◌&&◌, ◌||◌, List, [], ltb, eqb, length, is_some}
 use Rattle.target.specs.Uri.{is_uri, stream_named, has_query}
 use Rattle.tuning.specs.Values.{value_of}
 use Rattle.aim.specs.Query.{parts_of, attribute_in, are_parts, text_in, code_from}
@@ -40,7 +39,7 @@ uri_refusal frontends method u =
     not (are_parts [] (parts_of u)) gives QueryForm or
     (is_given 10 u && edits u) gives PidsClash or
     (edits u && not (has_stream u)) gives PidsUnstreamed or
-    not (all (λ p. is_value (value_of frontends (attribute_in p) (after 61 p))) (parts_of u)) gives Outside or
+    not (all (λ p. is_some (value_of frontends (attribute_in p) (after 61 p))) (parts_of u)) gives Outside or
     -- 10: "PLAY or TEARDOWN without stream, SETUP with neither stream nor query"
     ((eqb (method_number method) 2 || eqb (method_number method) 3 || (eqb (method_number method) 1 && not (has_query u))) && not (has_stream u)) gives NoStream or
     Passed

@@ -1,12 +1,11 @@
 -- What the functions of this crate promise each other and the crates above: what was found of a query and a URI, and where it stands. No call
 -- of the box reaches it. Assumes nothing.
-use Rattle.std.specs.Prelude.{ℕ, ◌+◌, ◌≤◌, ◌≡◌, true, false, Bool, not, cond, ◌&&◌, ◌||◌, List, [], ◌∷◌, eqb, ltb, length, get_or, replicate, Option, MatchOption, Result, Ok, Err}
+use Rattle.std.specs.Prelude.{ℕ, ◌+◌, ◌≤◌, ◌≡◌, true, false, Bool, not, cond, ◌&&◌, ◌||◌, List, [], ◌∷◌, eqb, ltb, length, get_or, replicate, Option, MatchOption, Result, Ok, Err, Some, is_some}
 use Rattle.scan.specs.Found.{Holds, nowhere, place_in}
 use Rattle.aim.specs.declared.query.Part.{Part}
 use Rattle.aim.specs.declared.query.Query.{Query}
 use Rattle.aim.specs.Query.{parts_of, attribute_in, are_parts, text_in, code_from, code_in}
 use Rattle.scan.specs.declared.Span.{Span}
-use Rattle.digits.specs.declared.Read.TheVariants.{Value as Number}
 use Rattle.target.specs.Uri.{stream_named, host_of, has_query, query_of}
 use Rattle.target.specs.Steps.{question, UriIs}
 use Rattle.target.specs.declared.Uri.{Uri}
@@ -18,7 +17,6 @@ use Rattle.aim.specs.declared.Aim.{Aim}
 use Rattle.aim.specs.Aim.{method_number, uri_refusal}
 use Rattle.scan.specs.Lists.{all, first, ◌gives◌or◌}
 use Rattle.scan.specs.Text.{is, after, cut}
-use Rattle.digits.specs.Reading.{is_value}
 use Rattle.tuning.specs.Values.{value_of}
 use Rattle.refusals.specs.declared.Refusal.TheVariants.{Value as Outside}
 
@@ -35,7 +33,7 @@ abbrev pub is_query : List ℕ → Bool
 is_query q = are_parts [] (cut 38 q)
 
 abbrev pub are_within : ℕ → List ℕ → Bool
-are_within frontends q = all (λ p. is_value (value_of frontends (attribute_in p) (after 61 p))) (cut 38 q)
+are_within frontends q = all (λ p. is_some (value_of frontends (attribute_in p) (after 61 p))) (cut 38 q)
 
 abbrev pub text_of : ℕ → List ℕ → List ℕ
 text_of a q = text_in a (cut 38 q)
@@ -58,7 +56,7 @@ is_named_before a [] = false
 is_named_before a (b ∷ bs) = eqb a b || is_named_before a bs
 
 abbrev pub is_within : ℕ → List ℕ → Bool
-is_within frontends p = is_value (value_of frontends (attribute_in p) (part_value p))
+is_within frontends p = is_some (value_of frontends (attribute_in p) (part_value p))
 
 -- an attribute's text and code, part by part
 abbrev pub text_among : ℕ → List (List ℕ) → List ℕ
@@ -148,7 +146,7 @@ Refuses frontends method u refusal = (refusal ≡ uri_refusal frontends method u
 -- what a URI that nothing refuses asks, and where that stands
 pub record AimIs (frontends : ℕ) (method : Method) (u : List ℕ) (r : Aim) : Type 0 where
   pub passes : uri_refusal frontends method u ≡ Passed
-  pub stream : Number r.stream ≡ stream_named u
+  pub stream : Some r.stream ≡ stream_named u
   pub host : Holds u (host_of u) r.host.start r.host.end
   pub query : Holds u (query_of u) r.query.start r.query.end
   pub thirteen : (length r.codes ≡ 13) × (length r.spans ≡ 13)

@@ -1,9 +1,7 @@
 -- "Query: one or more `name=value`, split at the first `=`, joined by `&`, no empty value, no repeated name." Assumes nothing.
-use Rattle.std.specs.Prelude.{ℕ, Bool, true, not, cond, ◌&&◌, List, [], ◌∷◌, ltb, eqb, get_or}
+use Rattle.std.specs.Prelude.{ℕ, Bool, true, not, cond, ◌&&◌, List, [], ◌∷◌, ltb, eqb, get_or, Option, unwrap_or}
 use Rattle.scan.specs.Lists.{all, first}
 use Rattle.scan.specs.Text.{cut, before, after, is_empty}
-use Rattle.digits.specs.declared.Read.{Read}
-use Rattle.digits.specs.declared.Read.TheVariants.{Value, Nothing}
 use Rattle.target.specs.Uri.{has_query, query_of}
 use Rattle.tuning.specs.Values.{attribute_of, value_of}
 
@@ -25,9 +23,8 @@ unfoldable pub text_in : ℕ → List (List ℕ) → List ℕ
 text_in a ps = after 61 (get_or ps (first (λ p. eqb (attribute_in p) a) ps) [])
 
 -- and its code, 0 where it is not given
-abbrev pub code_from : Read → ℕ
-code_from (Value v) = v
-code_from Nothing = 0
+abbrev pub code_from : Option ℕ → ℕ
+code_from read = unwrap_or read 0
 
 unfoldable pub code_in : ℕ → ℕ → List (List ℕ) → ℕ
 code_in frontends a ps = code_from (value_of frontends a (text_in a ps))

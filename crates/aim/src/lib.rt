@@ -11,7 +11,7 @@ use refusals::Refusal;
 use scan::Span;
 use target::Uri;
 
-#[derive(Clone, Copy)]
+#[derive(Clone, Copy, PartialEq, Eq, Debug)]
 pub enum Method {
     Options,
     Setup,
@@ -40,24 +40,16 @@ impl Aim {
 fn takes_no_query(method: Method) -> bool
     ensures { result ≡ takes_no_query method }
 {
-    match method {
-        Method::Options => true,
-        Method::Setup => false,
-        Method::Play => false,
-        Method::Teardown => true,
-        Method::Other => false,
-    }
+    matches!(method, Method::Options | Method::Teardown)
 }
 
 fn lacks_stream(method: Method, stream: bool, query: bool) -> bool
     ensures { result ≡ lacks_stream method stream query }
 {
     match method {
-        Method::Options => false,
         Method::Setup => !stream & !query,
-        Method::Play => !stream,
-        Method::Teardown => !stream,
-        Method::Other => false,
+        Method::Play | Method::Teardown => !stream,
+        Method::Options | Method::Other => false,
     }
 }
 

@@ -1,10 +1,8 @@
 // A URI's query: its form, its attributes' codes, and where their texts stand. Each byte is looked at twice, for `&` and for `=`; a
 // name's bytes once more for each attribute as long, and a value's as `tuning` says.
 ghost use Rattle.std.specs.Prelude.{◌≡◌, false, MatchOption};
-ghost use Rattle.aim.specs.Query.{code_from};
 ghost use Rattle.aim.specs.Found.{PartIs, is_query, QueryIs};
 
-use digits::Read;
 use scan::{Class, Span};
 
 // One `name=value`: its attribute, and where its value starts.
@@ -35,16 +33,6 @@ fn part_in(p: &[u8]) -> Option<Part>
     (attribute < 13).then_some(Part { attribute, value })
 }
 
-// The code of a value, 0 where it is outside the table.
-fn code_of(read: Read) -> u32
-    ensures { result ≡ code_from read }
-{
-    match read {
-        Read::Value(v) => v,
-        Read::Nothing => 0,
-    }
-}
-
 // Reads a query that has its form, on a box with so many frontends.
 pub(crate) fn read_query(q: &[u8], frontends: u8) -> Option<Query>
     ensures { MatchOption result (is_query q.now ≡ false) (QueryIs frontends q.now) }
@@ -52,6 +40,7 @@ pub(crate) fn read_query(q: &[u8], frontends: u8) -> Option<Query>
     let mut codes = [0u32; 13];
     let mut spans = [Span { start: 0, end: 0 }; 13];
     let mut within = true;
+    // The pieces by `first_from`, which looks at eight bytes in a row: `split` takes three instructions more for each byte of a long one.
     let mut p = 0;
     while p <= q.len() {
         let e = scan::first_from(q, p, Class::Is(b'&'));
@@ -62,12 +51,12 @@ pub(crate) fn read_query(q: &[u8], frontends: u8) -> Option<Query>
         }
         let value = p + part.value;
         let read = tuning::value_of(frontends, a, &q[value..e]);
-        codes[a] = code_of(read);
+        codes[a] = read.unwrap_or(0);
         spans[a] = Span {
             start: value,
             end: e,
         };
-        within = within & digits::is_value(read);
+        within = within & read.is_some();
         p = e + 1;
     }
     Some(Query {

@@ -13,9 +13,8 @@ use Rattle.scan.specs.Text.{text, ◌&◌, is_empty, are_alike}
 use Rattle.scan.specs.declared.Case.TheVariants.{Counts}
 use Rattle.scan.proofs.Bools.{never, and_both, Case as Test, is, isnt, case}
 use Rattle.scan.proofs.Parts.{some_text}
-use Rattle.digits.specs.Reading.{spelled, read_in, is_value, has_leading_zero, read_number}
-use Rattle.digits.specs.declared.Read.{Read}
-use Rattle.digits.specs.declared.Read.TheVariants.{Value, Nothing}
+use Rattle.digits.specs.Reading.{spelled, read_in, has_leading_zero, read_number}
+use Rattle.std.specs.Prelude.{Option, Some, None, is_some}
 use Rattle.digits.specs.declared.Zeros.TheVariants.{Allowed}
 use Rattle.digits.proofs.Limits.{are_digits_law}
 use Rattle.writing.specs.Writing.{decimal, width, numeral}
@@ -46,19 +45,19 @@ use Rattle.satbox.specs.Calls.{following, requested, answer_of}
 use Rattle.amended.proofs.Spellings.{Bare, all_digits, digits_text, one_spelling, line_first}
 
 -- DOCUMENT 01, WHERE ORDER 2 HAS OTHER WORDS: step 2 reads a number, and "All later answers carry it, without leading zeros"
-unfoldable pub number_before : List ℕ → Read
+unfoldable pub number_before : List ℕ → Option ℕ
 number_before s =
     let vs = values_of 0 (header_lines s) in
-    cond (is_laid_out s) (cond (eqb (length vs) 1) (read_number Allowed 10 4294967295 (get_or vs 0 [])) Nothing) Nothing
+    cond (is_laid_out s) (cond (eqb (length vs) 1) (read_number Allowed 10 4294967295 (get_or vs 0 [])) None) None
 
-abbrev pub cseq_before : Read → List ℕ
-cseq_before (Value n) = line "CSeq: " (decimal n)
-cseq_before Nothing = []
+abbrev pub cseq_before : Option ℕ → List ℕ
+cseq_before (Some n) = line "CSeq: " (decimal n)
+cseq_before None = []
 
 unfoldable pub head_before : List ℕ → Refusal
 head_before s =
     not (is_laid_out s) gives refusal.Layout or
-    not (is_value (number_before s)) gives refusal.CSeq or
+    not (is_some (number_before s)) gives refusal.CSeq or
     not (is_three (request_line s)) gives refusal.RequestLine or
     (is_twice 1 s || is_twice 2 s || is_twice 3 s || is_twice 4 s) gives refusal.HeaderTwice or
     not (are_alike Counts (line_part 2 (request_line s)) (text "RTSP/1.0")) gives refusal.Version or
@@ -119,12 +118,12 @@ only (v ∷ w ∷ vs) e = absurd (omega arith)
 
 -- or there are none, and no number was read before either
 data Sending (s : List ℕ) : Type 0 where
-  none : cseq_of s ≡ [] → number_before s ≡ Nothing → Sending s
-  some : Sends s (cseq_of s) → number_before s ≡ Value (spelled 10 (cseq_of s)) → Sending s
+  none : cseq_of s ≡ [] → number_before s ≡ None → Sending s
+  some : Sends s (cseq_of s) → number_before s ≡ Some (spelled 10 (cseq_of s)) → Sending s
 
 sending : (s : List ℕ) → Sending s
 unfolding cseq_of number_before read_number
-sending s = by (case (is_laid_out s)) (case (eqb (length vs) 1)) (case (is_value (read_in 10 10 4294967295 v)))
+sending s = by (case (is_laid_out s)) (case (eqb (length vs) 1)) (case (is_some (read_in 10 10 4294967295 v)))
   where
     vs : List (List ℕ)
     vs = values_of 0 (header_lines s)
@@ -132,11 +131,11 @@ sending s = by (case (is_laid_out s)) (case (eqb (length vs) 1)) (case (is_value
     v : List ℕ
     v = get_or vs 0 []
 
-    unread : (r : Read) → is_value r ≡ false → r ≡ Nothing
-    unread (Value n) e = never refl e
-    unread Nothing e = refl
+    unread : (r : Option ℕ) → is_some r ≡ false → r ≡ None
+    unread (Some n) e = never refl e
+    unread None e = refl
 
-    by : Test (is_laid_out s) → Test (eqb (length vs) 1) → Test (is_value (read_in 10 10 4294967295 v)) → Sending s
+    by : Test (is_laid_out s) → Test (eqb (length vs) 1) → Test (is_some (read_in 10 10 4294967295 v)) → Sending s
     by (isnt n) p q = none (rw n) (rw n)
     by (is y) (isnt n) q = none (rw (y, n)) (rw (y, n))
     by (is y) (is z) (isnt n) = none (rw (y, z, n)) (rw (y, z) (unread (read_in 10 10 4294967295 v) n))
@@ -148,23 +147,23 @@ sending s = by (case (is_laid_out s)) (case (eqb (length vs) 1)) (case (is_value
         (rw (e, y, z, le-leb 1 (length v) d.some, le-leb (length v) 10 d.few, d.digits, le-leb (spelled 10 v) 4294967295 d.small))
 
 -- a number in decimal: digits without leading zeros that say it
-abbrev number_of : Read → ℕ
-number_of (Value n) = n
-number_of Nothing = 0
+abbrev number_of : Option ℕ → ℕ
+number_of (Some n) = n
+number_of None = 0
 
-decimal_read : (v : ℕ) → v ≤ 4294967295 → read_in 10 10 4294967295 (decimal v) ≡ Value v
+decimal_read : (v : ℕ) → v ≤ 4294967295 → read_in 10 10 4294967295 (decimal v) ≡ Some v
 unfolding read_number
 decimal_read v h = read_decimal Allowed 9 4294967295 v h (omega arith) (omega arith)
 
 decimal_is : (v : ℕ) → v ≤ 4294967295 → Bare (decimal v)
 decimal_is v h =
-    let d = are_digits_law 10 10 4294967295 (decimal v) (ap is_value (decimal_read v h)) in
+    let d = are_digits_law 10 10 4294967295 (decimal v) (ap is_some (decimal_read v h)) in
     record { some = d.some; are = sym (all_digits (decimal v)) ∙ d.digits; bare = decimal_bare v (omega arith) }
 
 decimal_says : (v : ℕ) → v ≤ 4294967295 → spelled 10 (decimal v) ≡ v
 decimal_says v h =
-    let d = are_digits_law 10 10 4294967295 (decimal v) (ap is_value (decimal_read v h)) in
-    let e : read_in 10 10 4294967295 (decimal v) ≡ Value (spelled 10 (decimal v)) =
+    let d = are_digits_law 10 10 4294967295 (decimal v) (ap is_some (decimal_read v h)) in
+    let e : read_in 10 10 4294967295 (decimal v) ≡ Some (spelled 10 (decimal v)) =
     rw (le-leb 1 (length (decimal v)) d.some, le-leb (length (decimal v)) 10 d.few, d.digits, le-leb (spelled 10 (decimal v)) 4294967295 d.small)
     in
     ap number_of (sym e ∙ decimal_read v h)
@@ -200,10 +199,10 @@ in_place : (code reason digits more : List ℕ)
     ≡ ((text "RTSP/1.0 " & code & text " " & reason) & text "\r\nCSeq: ") & digits & text "\r\n" & more
 in_place code reason digits more = simp append_assoc
 
-number_sent : (s : List ℕ) → is_empty (cseq_of s) ≡ false → number_before s ≡ Value (spelled 10 (cseq_of s))
+number_sent : (s : List ℕ) → is_empty (cseq_of s) ≡ false → number_before s ≡ Some (spelled 10 (cseq_of s))
 number_sent s n = by (sending s)
   where
-    by : Sending s → number_before s ≡ Value (spelled 10 (cseq_of s))
+    by : Sending s → number_before s ≡ Some (spelled 10 (cseq_of s))
     by (none e f) = never (ap is_empty e) n
     by (some d f) = f
 
@@ -243,10 +242,10 @@ unfolding reply_text reason_of decimal width numeral
 early_text s e = (rw e, rw e)
 
 -- AS BEFORE: step 2 refuses what it refused
-refuses_alike : (s : List ℕ) → is_empty (cseq_of s) ≡ not (is_value (number_before s))
+refuses_alike : (s : List ℕ) → is_empty (cseq_of s) ≡ not (is_some (number_before s))
 refuses_alike s = by (sending s)
   where
-    by : Sending s → is_empty (cseq_of s) ≡ not (is_value (number_before s))
+    by : Sending s → is_empty (cseq_of s) ≡ not (is_some (number_before s))
     by (none e f) = rw (e, f)
     by (some d f) = rw (f, some_text (cseq_of s) d.some)
 

@@ -12,17 +12,16 @@ use Rattle.scan.proofs.Bools.{and_both, by_test}
 use Rattle.scan.proofs.Loops.{turn, end}
 use Rattle.digits.proofs.Positions.{value_from, Below, value_below}
 use Rattle.digits.specs.Reading.{digit_of, are_digits, spelled, read_in, read_hex8}
-use Rattle.digits.specs.declared.Read.{Read}
-use Rattle.digits.specs.declared.Read.TheVariants.{Value, Nothing}
+use Rattle.std.specs.Prelude.{Option, Some, None}
 
 -- a number of 32 bits and two digits of a byte fit 64 bits
 pub with_digit_fits : (v base d : ℕ) → v < 4294967296 → base < 256 → d < 256 → v * base + d < 18446744073709551616
 with_digit_fits v base d h k l = omega (arith, mul-le-mul {n₁ = v} {m₁ = base} {n₂ = 4294967295} {m₂ = 255} (omega arith) (omega arith))
 
 -- what is read of the rest after v
-abbrev rest : ℕ → ℕ → ℕ → List ℕ → Read
+abbrev rest : ℕ → ℕ → ℕ → List ℕ → Option ℕ
 rest base limit v xs =
-    cond (are_digits base xs && leb (value_from base v (map digit_of xs)) limit) (Value (value_from base v (map digit_of xs))) Nothing
+    cond (are_digits base xs && leb (value_from base v (map digit_of xs)) limit) (Some (value_from base v (map digit_of xs))) None
 
 -- digits only make a number larger
 grows : (base v : ℕ) (ds : List ℕ) → 0 < base → v ≤ value_from base v ds
@@ -31,7 +30,7 @@ grows base v (d ∷ ds) h =
     let l : v ≤ v * base + d = omega (arith, mul-le-mul_left v h) in
     le_trans l (grows base (v * base + d) ds h)
 
-rest_over : (base limit v : ℕ) (xs : List ℕ) → 0 < base → limit < v → rest base limit v xs ≡ Nothing
+rest_over : (base limit v : ℕ) (xs : List ℕ) → 0 < base → limit < v → rest base limit v xs ≡ None
 rest_over base limit v xs h k =
     let g : v ≤ value_from base v (map digit_of xs) = grows base v (map digit_of xs) h in
     simp (lt-leb (value_from base v (map digit_of xs)) limit (omega arith), and-false)
@@ -42,12 +41,12 @@ digits_below base (x ∷ xs) h e zero = ltb-true (digit_of x) base (and_both (lt
 digits_below base (x ∷ xs) h e (suc i) = digits_below base xs h (and_both (ltb (digit_of x) base) (are_digits base xs) e).1 i
 
 -- where every number of so many digits is within the limit, it settles nothing
-pub all_digits : (base most limit : ℕ) (s : List ℕ) → 0 < base → length s ≡ most → 1 ≤ most → base ^ most ≤ limit + 1 → read_in base most limit s ≡ cond (are_digits base s) (Value (spelled base s)) Nothing
+pub all_digits : (base most limit : ℕ) (s : List ℕ) → 0 < base → length s ≡ most → 1 ≤ most → base ^ most ≤ limit + 1 → read_in base most limit s ≡ cond (are_digits base s) (Some (spelled base s)) None
 all_digits base most limit s b e h k =
     rw (le-leb 1 (length s) (omega arith), le-leb (length s) most (omega arith))
-    (by_test (λ t. cond (t && leb (spelled base s) limit) (Value (spelled base s)) Nothing ≡ cond t (Value (spelled base s)) Nothing) (are_digits base s) fits (λ _. refl))
+    (by_test (λ t. cond (t && leb (spelled base s) limit) (Some (spelled base s)) None ≡ cond t (Some (spelled base s)) None) (are_digits base s) fits (λ _. refl))
   where
-    fits : are_digits base s ≡ true → cond (leb (spelled base s) limit) (Value (spelled base s)) Nothing ≡ Value (spelled base s)
+    fits : are_digits base s ≡ true → cond (leb (spelled base s) limit) (Some (spelled base s)) None ≡ Some (spelled base s)
     fits d =
         let v = rw (length-map s digit_of, e) at (value_below base (map digit_of s) (digits_below base s b d)) in
         rw (le-leb (spelled base s) limit (omega arith))
@@ -57,15 +56,15 @@ pub hex_limit : (s : List ℕ) → length s ≡ 8 → read_in 16 8 4294967295 s 
 unfolding read_hex8
 hex_limit s e = rw (all_digits 16 8 4294967295 s (omega arith) e (omega arith) (omega arith), e)
 
-pub hex_length : (s : List ℕ) → (length s ≡ 8 → ⊥) → Nothing ≡ read_hex8 s
+pub hex_length : (s : List ℕ) → (length s ≡ 8 → ⊥) → None ≡ read_hex8 s
 unfolding read_hex8
 hex_length s n = rw (ne_eqb (length s) 8 n)
 
 module _ (base most limit : ℕ) where
-  pub read_empty : (s : List ℕ) → length s ≡ 0 → Nothing ≡ read_in base most limit s
+  pub read_empty : (s : List ℕ) → length s ≡ 0 → None ≡ read_in base most limit s
   read_empty s e = rw (lt-leb 1 (length s) (omega arith))
 
-  pub read_long : (s : List ℕ) → most < length s → Nothing ≡ read_in base most limit s
+  pub read_long : (s : List ℕ) → most < length s → None ≡ read_in base most limit s
   read_long s h = simp (lt-leb (length s) most h, and-false)
 
   -- v was read before place i, and what is read of the rest after it is what is read of the whole
@@ -82,18 +81,18 @@ module _ (base most limit : ℕ) where
         same = sym (rw (le-leb 1 (length s) (omega arith), le-leb (length s) most h));
       }
 
-  pub spelling_end : {s : List ℕ} {i v : ℕ} → Spelling s i v → length s ≤ i → Value v ≡ read_in base most limit s
+  pub spelling_end : {s : List ℕ} {i v : ℕ} → Spelling s i v → length s ≤ i → Some v ≡ read_in base most limit s
   spelling_end {s} {i} {v} r h = sym (end (rest base limit v) s i h ∙ rw (le-leb v limit r.small)) ∙ r.same
 
   module _ {s : List ℕ} {i v d : ℕ} (r : Spelling s i v) (h : i < length s) (e : d ≡ digit_of (get_or s i 0)) where
-    pub spelling_not : base ≤ d → Nothing ≡ read_in base most limit s
+    pub spelling_not : base ≤ d → None ≡ read_in base most limit s
     spelling_not k = sym (turn (rest base limit v) s i 0 h ∙ rw (← e, le-ltb d base k)) ∙ r.same
 
     module _ {w : ℕ} (k : d < base) (q : w ≡ v * base + d) where
       step : rest base limit v (drop i s) ≡ rest base limit w (drop (i + 1) s)
       step = turn (rest base limit v) s i 0 h ∙ rw (← e, lt-ltb d base k, q)
 
-      pub spelling_over : limit < w → Nothing ≡ read_in base most limit s
+      pub spelling_over : limit < w → None ≡ read_in base most limit s
       spelling_over l = sym (step ∙ rest_over base limit w (drop (i + 1) s) (omega arith) l) ∙ r.same
 
       pub spelling_more : w ≤ limit → Spelling s (i + 1) w

@@ -2,37 +2,44 @@
 use mathlib.Core.Path.{◌≡◌, ap, sym, ◌∙◌}
 use mathlib.Core.Bool.{Bool, true, false}
 use mathlib.Core.List.{List, []}
-use Prim.Native.Nat.{ℕ, ◌≤◌, ◌<◌}
+use Prim.Native.Nat.{ℕ, ◌+◌, ◌≤◌, ◌<◌}
+use mathlib.Core.Logic.{◌⊎◌, inl, inr}
 use native.Mathlib.Omega.{arith}
 use lib.ListN.{length}
 use Rattle.scan.specs.Found.{text_at}
 use Rattle.scan.specs.Lists.{part}
 use Rattle.scan.specs.declared.Span.{Span}
 use Rattle.scan.proofs.Parts.{holds_nothing, text_inside, text_outside, text_none}
-use Rattle.digits.specs.Reading.{read_in, is_value}
+use Rattle.digits.specs.Reading.{read_in}
 use Rattle.digits.specs.Standing.{Stands}
-use Rattle.digits.specs.declared.Read.{Read}
+use Rattle.std.specs.Prelude.{Option, is_some}
 
 module _ (base most limit : ℕ) (s : List ℕ) (place : Span) where
   abbrev Nowhere : Type 0
   Nowhere = Stands base most limit s place (record { start = 0; end = 0 })
 
-  unread : is_value (read_in base most limit (text_at s place)) ≡ false → Nowhere
+  unread : is_some (read_in base most limit (text_at s place)) ≡ false → Nowhere
   unread n = record { is = rw n; holds = rw n (holds_nothing s) }
 
   empty : text_at s place ≡ [] → Nowhere
   empty e = unread (rw e)
 
-  pub stands_unordered : place.end < place.start → Nowhere
-  stands_unordered h = empty (text_none s place (omega arith))
+  -- there is no such place
+  pub stands_outside : (place.end < place.start) ⊎ (length s < place.end) → Nowhere
+  stands_outside (inl h) = empty (text_none s place (omega arith))
+  stands_outside (inr h) = empty (text_outside s place h)
 
-  pub stands_outside : length s < place.end → Nowhere
-  stands_outside h = empty (text_outside s place h)
+  -- or x stands there
+  module _ {x : List ℕ} {l : ℕ} (h : (place.start ≤ place.end) × (place.end ≤ length s) × (x ≡ part place.start place.end s) × (length x + place.start ≡ l))
+      {r : Option ℕ} (e : r ≡ read_in base most limit x) {t : Bool} (q : t ≡ is_some r) where
+    o : place.start ≤ place.end
+    o = h.0
 
-  module _ (o : place.start ≤ place.end) (w : place.end ≤ length s)
-      {r : Read} (e : r ≡ read_in base most limit (part place.start place.end s)) {t : Bool} (q : t ≡ is_value r) where
-    read_is : is_value (read_in base most limit (text_at s place)) ≡ t
-    read_is = ap (λ l. is_value (read_in base most limit l)) (text_inside s place o w) ∙ ap is_value (sym e) ∙ sym q
+    w : place.end ≤ length s
+    w = h.1
+
+    read_is : is_some (read_in base most limit (text_at s place)) ≡ t
+    read_is = ap (λ y. is_some (read_in base most limit y)) (text_inside s place o w ∙ sym h.2) ∙ ap is_some (sym e) ∙ sym q
 
     pub stands_here : t ≡ true → Stands base most limit s place place
     stands_here y = let z = read_is ∙ y in record { is = rw z; holds = rw z (record { order = o; within = w; is = sym (text_inside s place o w) }) }

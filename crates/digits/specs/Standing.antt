@@ -1,12 +1,12 @@
 -- Where the digits of a number stand that was read at a place of a text, in any base and of any width. No call of the box reaches it. Assumes nothing.
-use Rattle.std.specs.Prelude.{ℕ, ◌≡◌, cond, List}
+use Rattle.std.specs.Prelude.{ℕ, ◌≡◌, cond, List, is_some}
 use Rattle.scan.specs.Found.{Holds, text_at, nowhere}
 use Rattle.scan.specs.declared.Span.{Span}
-use Rattle.digits.specs.Reading.{read_in, is_value, digits_read}
+use Rattle.digits.specs.Reading.{read_in, digits_read}
 
 -- the place itself, where its whole text is a number
 abbrev pub digits_at : ℕ → ℕ → ℕ → List ℕ → Span → Span
-digits_at base most limit s place = cond (is_value (read_in base most limit (text_at s place))) place nowhere
+digits_at base most limit s place = cond (is_some (read_in base most limit (text_at s place))) place nowhere
 
 pub record Stands (base most limit : ℕ) (s : List ℕ) (place r : Span) : Type 0 where
   pub is : r ≡ digits_at base most limit s place

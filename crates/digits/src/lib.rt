@@ -3,26 +3,19 @@
 #![tactic(auto)]
 
 ghost use Rattle.std.specs.Prelude.{◌≡◌, ◌+◌, ◌*◌, ◌<◌};
-ghost use Rattle.digits.specs.Reading.{digit_of, read_in, has_leading_zero, read_number, at_least, is_value, read_hex8};
+ghost use Rattle.digits.specs.Reading.{digit_of, read_in, has_leading_zero, read_number, at_least, read_hex8};
 ghost use Rattle.digits.specs.Standing.{Stands};
 
 use scan::Span;
 
-// What was read: a number, or something that is none.
-#[derive(Clone, Copy)]
-pub enum Read {
-    Value(u32),
-    Nothing,
-}
-
 // Whether zeros may stand before the first digit that counts.
-#[derive(Clone, Copy)]
+#[derive(Clone, Copy, PartialEq, Eq, Debug)]
 pub enum Zeros {
     Allowed,
     Refused,
 }
 
-// What a byte counts as a digit of a base up to 16; 255 where it is none.
+// What a byte counts as a digit of a base up to 16; 255 where it is none. A `match` over ranges takes four instructions more for each byte.
 fn digit_of(b: u8) -> u8
     ensures { result ≡ digit_of b }
 {
@@ -46,67 +39,55 @@ fn with_digit(v: u32, base: u8, d: u8) -> u64
 }
 
 // One to `most` digits of the base that say at most `limit`.
-fn number_in(base: u8, s: &[u8], most: usize, limit: u32) -> Read
+fn number_in(base: u8, s: &[u8], most: usize, limit: u32) -> Option<u32>
     ensures { result ≡ read_in base most limit s.now }
 {
-    if s.len() == 0 {
-        return Read::Nothing;
+    if s.is_empty() {
+        return None;
     }
     if most < s.len() {
-        return Read::Nothing;
+        return None;
     }
     let mut v: u32 = 0;
-    let mut i = 0;
-    while i < s.len() {
-        let d = digit_of(s[i]);
+    for b in s {
+        let d = digit_of(*b);
         if base <= d {
-            return Read::Nothing;
+            return None;
         }
         let next = with_digit(v, base, d);
         if (limit as u64) < next {
-            return Read::Nothing;
+            return None;
         }
         v = next as u32;
-        i += 1;
     }
-    Read::Value(v)
+    Some(v)
 }
 
 fn has_leading_zero(s: &[u8]) -> bool
     ensures { result ≡ has_leading_zero s.now }
 {
-    if 1 < s.len() { s[0] == b'0' } else { false }
+    1 < s.len() && s[0] == b'0'
 }
 
 // The decimal number that the whole text is, of one to `most` digits and at most `limit`.
-pub fn number(s: &[u8], zeros: Zeros, most: usize, limit: u32) -> Read
+#[tactic(auto, unfolding(crate::specs::Reading::read_number))]
+pub fn number(s: &[u8], zeros: Zeros, most: usize, limit: u32) -> Option<u32>
     ensures { result ≡ read_number zeros most limit s.now }
 {
-    match zeros {
-        Zeros::Allowed => number_in(10, s, most, limit),
-        Zeros::Refused => {
-            if has_leading_zero(s) {
-                Read::Nothing
-            } else {
-                number_in(10, s, most, limit)
-            }
-        }
+    if zeros == Zeros::Refused && has_leading_zero(s) {
+        return None;
     }
+    number_in(10, s, most, limit)
 }
 
 // Where in `s` the digits stand of the number that the whole text at a place is, in the base, within the same limits; 0 to 0 where it is none.
 pub fn digits_at(base: u8, s: &[u8], place: Span, most: usize, limit: u32) -> Span
     ensures { Stands base most limit s.now place result }
 {
-    let start = place.start;
-    let end = place.end;
-    if end < start {
+    let Some(text) = s.get(place.start..place.end) else {
         return Span { start: 0, end: 0 };
-    }
-    if s.len() < end {
-        return Span { start: 0, end: 0 };
-    }
-    if is_value(number_in(base, &s[start..end], most, limit)) {
+    };
+    if number_in(base, text, most, limit).is_some() {
         place
     } else {
         Span { start: 0, end: 0 }
@@ -114,38 +95,19 @@ pub fn digits_at(base: u8, s: &[u8], place: Span, most: usize, limit: u32) -> Sp
 }
 
 // What was read, where it is no less than `least`.
-pub fn at_least(least: u32, read: Read) -> Read
+pub fn at_least(least: u32, read: Option<u32>) -> Option<u32>
     ensures { result ≡ at_least least read }
 {
-    match read {
-        Read::Value(v) => {
-            if least <= v {
-                Read::Value(v)
-            } else {
-                Read::Nothing
-            }
-        }
-        Read::Nothing => Read::Nothing,
-    }
-}
-
-// Whether a number was read.
-pub fn is_value(read: Read) -> bool
-    ensures { result ≡ is_value read }
-{
-    match read {
-        Read::Value(_) => true,
-        Read::Nothing => false,
-    }
+    read.filter(|v| least <= *v)
 }
 
 // The number that the whole text is, of eight hexadecimal digits of either case.
-pub fn hex_number(s: &[u8]) -> Read
+pub fn hex_number(s: &[u8]) -> Option<u32>
     ensures { result ≡ read_hex8 s.now }
 {
     if s.len() == 8 {
-        number_in(16, s, 8, 4294967295)
+        number_in(16, s, 8, u32::MAX)
     } else {
-        Read::Nothing
+        None
     }
 }

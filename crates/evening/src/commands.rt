@@ -1,6 +1,6 @@
 // The commands of the script: the first word of a line says which it is.
 use crate::fields::{self, Setting};
-use digits::{Read, Zeros};
+use digits::Zeros;
 use script::Words;
 use table::{SatBox, Settings};
 
@@ -9,10 +9,7 @@ pub(crate) const NETWORK: u32 = 0xC0A8B200;
 
 // The number that the next word is, if it is one.
 fn given(words: &mut Words<'_>) -> Option<u32> {
-    match digits::number(words.word(), Zeros::Allowed, 10, u32::MAX) {
-        Read::Value(v) => Some(v),
-        Read::Nothing => None,
-    }
+    digits::number(words.word(), Zeros::Allowed, 10, u32::MAX)
 }
 
 // The same, or 0.

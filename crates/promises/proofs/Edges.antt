@@ -22,7 +22,7 @@ use Rattle.refusals.specs.declared.Refusal.TheVariants.{Value as Outside}
 use Rattle.reader.specs.Fields.{session_of, transport_of}
 use Rattle.reader.specs.Request.{cseq_of, head_refusal, request_refusal, method_of}
 use Rattle.reader.specs.declared.fields.Session.TheVariants.{Absent}
-use Rattle.reader.specs.declared.fields.Transport.TheVariants.{Other, Port}
+use Rattle.std.specs.Prelude.{Some, None}
 use Rattle.journal.specs.Records.{encoded}
 use Rattle.journal.specs.declared.Record.{Record}
 use Rattle.stream.specs.Values.{are_none, are_in_range, go_together, merged}
@@ -206,7 +206,7 @@ distinct_asked =
       codes = 0 ∷ 0 ∷ 0 ∷ 0 ∷ 0 ∷ 0 ∷ 0 ∷ 0 ∷ 0 ∷ 0 ∷ 3 ∷ 0 ∷ 0 ∷ [];
       query = true;
       session = Absent;
-      transport = Port 5000;
+      transport = Some 5000;
     }
 
 abbrev distinct_lists : Lists
@@ -294,7 +294,7 @@ odd_asked =
       codes = 0 ∷ 0 ∷ 1153800 ∷ 2 ∷ 1 ∷ 0 ∷ 0 ∷ 0 ∷ 22000 ∷ 4 ∷ 3 ∷ 0 ∷ 0 ∷ [];
       query = true;
       session = Absent;
-      transport = Other;
+      transport = None;
     }
 
 abbrev odd_lists : Lists

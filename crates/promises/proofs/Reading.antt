@@ -10,7 +10,7 @@ use Rattle.lines.specs.Lines.{header_lines}
 use Rattle.lines.specs.Headers.{values_of}
 use Rattle.lines.specs.Laid.{first_value}
 use Rattle.reader.specs.Fields.{transport_of}
-use Rattle.reader.specs.declared.fields.Transport.TheVariants.{Port}
+use Rattle.std.specs.Prelude.{Some}
 use Rattle.table.specs.declared.SatBox.{SatBox}
 use Rattle.steps.proofs.Telling.{asked_fit, asked_port}
 use Rattle.satbox.specs.Calls.{requested, replied}
@@ -20,7 +20,7 @@ use Rattle.serving.proofs.Kept.{is_port}
 use Rattle.promises.proofs.Requests.{Reads, requested_whole, replied_whole}
 use Rattle.promises.proofs.Written.{requested_recorded}
 
-port_read : (v : List ℕ) (p : ℕ) → transport_of v ≡ Port p → is_port p ≡ true
+port_read : (v : List ℕ) (p : ℕ) → transport_of v ≡ Some p → is_port p ≡ true
 port_read v p e =
     let h = asked_port v p e in
     both (both (le-leb 1024 p h.0) (le-leb p 65534 h.1)) (eq-eqb (p % 2) 0 h.2)

@@ -8,8 +8,7 @@ use borrow.Author.Tests.{eqb-true}
 use Rattle.scan.proofs.Bools.{never, cond_keeps}
 use Rattle.aim.specs.declared.Method.{Method}
 use Rattle.aim.specs.declared.Method.TheVariants.{Options, Setup, Play, Teardown, Other}
-use Rattle.reader.specs.declared.fields.Transport.{Transport}
-use Rattle.reader.specs.declared.fields.Transport.TheVariants.{Other as Missing, Port}
+use Rattle.std.specs.Prelude.{Option, Some, None}
 use Rattle.stream.specs.Streams.{blank, is_sound, merge_of, after_query}
 use Rattle.stream.specs.Arrays.{are_fit}
 use Rattle.stream.proofs.Soundness.{blank_sound}
@@ -53,11 +52,11 @@ module _ (place : ℕ) (t : SatBox) (w : Whole t) (some : (session_at t place).n
 -- WHAT STEPS 1 TO 10 LET THROUGH: every value is in the table of attributes, or 0 where it is not given; a port, if there is one, is step 15's
 pub record Fit (a : Asked) : Type 0 where
   pub codes : are_fit a.codes ≡ true
-  pub port : (p : ℕ) → a.transport ≡ Port p → is_port p ≡ true
+  pub port : (p : ℕ) → a.transport ≡ Some p → is_port p ≡ true
 
-some_port : (x : Transport) → ((p : ℕ) → x ≡ Port p → is_port p ≡ true) → (port_of x ≡ 0 → ⊥) → is_port (port_of x) ≡ true
-some_port Missing h n = absurd (n refl)
-some_port (Port p) h n = h p refl
+some_port : (x : Option ℕ) → ((p : ℕ) → x ≡ Some p → is_port p ≡ true) → (port_of x ≡ 0 → ⊥) → is_port (port_of x) ≡ true
+some_port None h n = absurd (n refl)
+some_port (Some p) h n = h p refl
 
 module _ (t : SatBox) (a : Asked) (l : Lists) (client : Client) (w : Whole t) (fit : Fit a) (p : Untested (sight_of t a)) (q : Changing t a l) where
   set_port : is_setup (sight_of t a).method ≡ true → is_port (sight_of t a).port ≡ true

@@ -117,9 +117,6 @@ digits_digits_at κs a x y v w p q = same p.is q.is
 pub digits_at_least : Unique digits_contracts.at_least.ended digits.at_least.Reads.Post
 digits_at_least κs a x y v w = same
 
-pub digits_is_value : Unique digits_contracts.is_value.ended digits.is_value.Reads.Post
-digits_is_value κs a x y v w = same
-
 pub writing_put : Unique writing_contracts.put.ended writing.put.Reads.Post
 writing_put κs a x y v w = wrote
 

@@ -15,13 +15,13 @@ use Rattle.scan.specs.declared.Case.TheVariants.{Counts}
 use Rattle.scan.proofs.Bools.{never, Case as Test, is, isnt, case}
 use Rattle.scan.proofs.Parts.{part_length, holds_length, holds_nothing, holds_inside, text_held, no_text, some_text}
 use native.Mathlib.Nat.{zero-add}
-use Rattle.digits.specs.Reading.{read_in, is_value, digits_read}
+use Rattle.digits.specs.Reading.{read_in, digits_read}
 use Rattle.digits.specs.Standing.{Stands, digits_at}
 use Rattle.digits.proofs.Limits.{are_digits_law}
 use Rattle.lines.specs.Lines.{is_laid_out, request_line, header_lines}
 use Rattle.lines.specs.Headers.{values_of}
 use Rattle.lines.specs.Laid.{first_value, times_of, place_of, first_seen, unseen, SeenIs, value_start, LinesAre}
-use Rattle.std.specs.Prelude.{Some, None}
+use Rattle.std.specs.Prelude.{Some, None, Option, None, is_some}
 use Rattle.lines.specs.declared.Seen.{Seen}
 use Rattle.lines.specs.declared.Seen.TheVariants.{Never, Once, Again}
 use Rattle.lines.specs.declared.Lines.{Lines}
@@ -42,8 +42,6 @@ use Rattle.aim.specs.declared.Aim.{Aim}
 use Rattle.reader.specs.declared.Request.{Request}
 use Rattle.reader.specs.declared.fields.Session.{Session}
 use Rattle.reader.specs.declared.fields.Session.TheVariants.{Absent}
-use Rattle.reader.specs.declared.fields.Transport.{Transport}
-use Rattle.reader.specs.declared.fields.Transport.TheVariants.{Other as NoTransport}
 
 -- A HEADER BY ITS PLACE
 -- of a count, two stands for more
@@ -87,7 +85,7 @@ first_session s Never e = refl
 first_session s (Once v) e = cc
 first_session s (Again v) e = cc
 
-pub first_transport : (s : List ℕ) (seen : Seen) → first_seen seen ≡ None → NoTransport ≡ transport_of (head_text s seen)
+pub first_transport : (s : List ℕ) (seen : Seen) → first_seen seen ≡ None → None ≡ transport_of (head_text s seen)
 unfolding transport_of
 first_transport s Never e = refl
 first_transport s (Once v) e = cc
@@ -137,7 +135,7 @@ module _ {s : List ℕ} {seen : Seen} {place : Span} (o : seen ≡ Once place) (
   value_is = text_held s value place q.values.value
 
   -- the digits stand where the value stands, if it is a number
-  here : Test (is_value (read_in 10 cseq_most cseq_limit value)) → digits_at 10 cseq_most cseq_limit s place ≡ cseq_place s
+  here : Test (is_some (read_in 10 cseq_most cseq_limit value)) → digits_at 10 cseq_most cseq_limit s place ≡ cseq_place s
   here (is y) =
       let v = value in
       let e : cseq_of s ≡ v = cseq_is ∙ rw y in
@@ -148,7 +146,7 @@ module _ {s : List ℕ} {seen : Seen} {place : Span} (o : seen ≡ Once place) (
   pub cseq_once : {r : Span} → Stands 10 cseq_most cseq_limit s place r → CseqIs s r
   cseq_once {r} w =
       record {
-        is = w.is ∙ here (case (is_value (read_in 10 cseq_most cseq_limit value)));
+        is = w.is ∙ here (case (is_some (read_in 10 cseq_most cseq_limit value)));
         held = rw (cseq_is, ← value_is) w.holds;
       }
 
@@ -199,7 +197,7 @@ module _ (s : List ℕ) {l : Lines} (i : LinesAre s l) where
   request_uncounted n = rw (i.whole, n)
 
 -- WHAT A REQUEST ASKS
-pub request_passed : {frontends : ℕ} {s : List ℕ} {l : Lines} {c : Span} {m : Method} {from : ℕ} {a : Aim} {x : Session} {y : Transport} {v : Span} → Passing frontends s l c m from a
+pub request_passed : {frontends : ℕ} {s : List ℕ} {l : Lines} {c : Span} {m : Method} {from : ℕ} {a : Aim} {x : Session} {y : Option ℕ} {v : Span} → Passing frontends s l c m from a
     → x ≡ session_seen s (get_or l.headers 1 unseen) → y ≡ transport_of (head_text s (get_or l.headers 2 unseen)) → v ≡ nowhere
     → RequestIs frontends s (record {
       codes = a.codes;

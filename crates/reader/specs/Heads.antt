@@ -1,10 +1,9 @@
 -- What the functions of this crate promise each other and the crates above: what a header's place holds, how far a request has come between
 -- them, and where in it stands what it asks. No call of the box reaches it. Assumes nothing.
-use Rattle.std.specs.Prelude.{ℕ, ◌+◌, ◌≤◌, ◌<◌, ◌%◌, ◌≡◌, Bool, true, false, cond, ◌||◌, ◌&&◌, List, [], ◌∷◌, ltb, eqb, length, get_or, replicate}
+use Rattle.std.specs.Prelude.{ℕ, ◌+◌, ◌≤◌, ◌<◌, ◌%◌, ◌≡◌, Bool, true, false, cond, ◌||◌, ◌&&◌, List, [], ◌∷◌, ltb, eqb, length, get_or, replicate, Some, None}
 use Rattle.scan.specs.Lists.{part, first}
 use Rattle.scan.specs.Found.{Holds, nowhere}
 use Rattle.digits.specs.Reading.{read_hex8}
-use Rattle.digits.specs.declared.Read.TheVariants.{Value as Number}
 use Rattle.lines.specs.Lines.{is_laid_out, header_lines, request_line}
 use Rattle.lines.specs.Headers.{values_of}
 use Rattle.lines.specs.Laid.{first_value, times_of, place_of, unseen, SeenIs, LinesAre, value_start}
@@ -28,7 +27,6 @@ use Rattle.target.specs.Line.{line_part}
 use Rattle.refusals.specs.declared.Refusal.{Refusal}
 use Rattle.refusals.specs.declared.Refusal.TheVariants.{Passed, Require}
 use Rattle.aim.specs.declared.Method.TheVariants.{Other, Options, Setup, Play, Teardown}
-use Rattle.reader.specs.declared.fields.Transport.TheVariants.{Other as NoTransport}
 use Rattle.reader.specs.declared.Request.{Request}
 use Rattle.scan.specs.Text.{is, before, text, is_empty, are_alike, place_among}
 use Rattle.scan.specs.declared.Case.TheVariants.{Counts}
@@ -114,7 +112,7 @@ pub record Passing (frontends : ℕ) (s : List ℕ) (l : Lines) (cseq : Span) (m
   pub passes : request_refusal frontends s ≡ Passed
   pub cseq_is : CseqIs s cseq
   pub method_is : method ≡ method_of s
-  pub stream : Number a.stream ≡ stream_named (uri_of s)
+  pub stream : Some a.stream ≡ stream_named (uri_of s)
   pub host : Holds s (host_of (uri_of s)) (from + a.host.start) (from + a.host.end)
   pub query : Holds s (query_of (uri_of s)) (from + a.query.start) (from + a.query.end)
   pub codes : (k : ℕ) → get_or a.codes k 0 ≡ code_in frontends k (parts_of (uri_of s))
@@ -140,7 +138,7 @@ refused_request refusal cseq require =
       query = nowhere;
       require = require;
       session = Absent;
-      transport = NoTransport;
+      transport = None;
     }
 
 -- the first of steps 1 to 10 that refuses, or what the request asks and where that stands
@@ -150,7 +148,7 @@ pub record RequestIs (frontends : ℕ) (s : List ℕ) (r : Request) : Type 0 whe
   pub require : head_refusal s ≡ Require → Holds s (first_value (values_of 3 (header_lines s))) r.require.start r.require.end
   pub unrequired : (head_refusal s ≡ Require → ⊥) → r.require ≡ nowhere
   pub method : r.refusal ≡ Passed → r.method ≡ method_of s
-  pub stream : r.refusal ≡ Passed → Number r.stream ≡ stream_named (uri_of s)
+  pub stream : r.refusal ≡ Passed → Some r.stream ≡ stream_named (uri_of s)
   pub host : r.refusal ≡ Passed → Holds s (host_of (uri_of s)) r.host.start r.host.end
   pub query : r.refusal ≡ Passed → Holds s (query_of (uri_of s)) r.query.start r.query.end
   pub codes : r.refusal ≡ Passed → (a : ℕ) → get_or r.codes a 0 ≡ code_in frontends a (parts_of (uri_of s))

@@ -1,8 +1,7 @@
 -- Document 001's own requests (3.5.2 to 3.5.8, 3.5.14) and document 01's edges, read by computation. Assumes nothing.
-use Rattle.std.specs.Prelude.{ℕ, ◌≡◌, refl, List, [], length, replicate}
+use Rattle.std.specs.Prelude.{ℕ, ◌≡◌, refl, List, [], length, replicate, Option, Some, None}
 use Rattle.scan.specs.Text.{text, ◌&◌, place_among}
 use Rattle.digits.specs.Reading.{read_number, read_hex8}
-use Rattle.digits.specs.declared.Read.TheVariants.{Value as Number}
 use Rattle.lines.specs.Lines.{is_laid_out, request_line, header_lines}
 use Rattle.lines.specs.Headers.{values_of}
 use Rattle.lines.specs.Laid.{first_value}
@@ -15,22 +14,20 @@ use Rattle.refusals.specs.declared.Refusal.TheVariants.{Method as OtherMethod, V
 use Rattle.reader.specs.Fields.{session_of, transport_of}
 use Rattle.reader.specs.Request.{cseq_of, uri_of, head_refusal, request_refusal, method_of}
 use Rattle.reader.specs.declared.fields.Session.{Session}
-use Rattle.reader.specs.declared.fields.Transport.{Transport}
 use Rattle.reader.specs.declared.fields.Session.TheVariants.{Absent, Malformed, Named}
-use Rattle.reader.specs.declared.fields.Transport.TheVariants.{Other, Port}
 
 -- what the request's headers say
 abbrev session : List ℕ → Session
 session s = session_of (values_of 1 (header_lines s))
 
-abbrev transport : List ℕ → Transport
+abbrev transport : List ℕ → Option ℕ
 transport s = transport_of (first_value (values_of 2 (header_lines s)))
 
 -- 3.5.2, a first SETUP
 abbrev setup : List ℕ
 setup = text "SETUP rtsp://192.168.128.5/?src=1&fe=1&freq=12402&pol=v&msys=dvbs&sr=27500&fec=34&pids=0,16,50,104,166,1707 RTSP/1.0\r\nCSeq: 1\r\nTransport: RTP/AVP;unicast;client_port=1400-1401\r\n\r\n"
 
-pub setup_read : (request_refusal 2 setup ≡ Passed) × (cseq_of setup ≡ text "1") × (session setup ≡ Absent) × (transport setup ≡ Port 1400) × (code_in 2 2 (parts_of (uri_of setup)) ≡ 1240200) × (code_in 2 3 (parts_of (uri_of setup)) ≡ 2) × (code_in 2 9 (parts_of (uri_of setup)) ≡ 3) × (text_in 10 (parts_of (uri_of setup)) ≡ text "0,16,50,104,166,1707") × (code_in 2 5 (parts_of (uri_of setup)) ≡ 0)
+pub setup_read : (request_refusal 2 setup ≡ Passed) × (cseq_of setup ≡ text "1") × (session setup ≡ Absent) × (transport setup ≡ Some 1400) × (code_in 2 2 (parts_of (uri_of setup)) ≡ 1240200) × (code_in 2 3 (parts_of (uri_of setup)) ≡ 2) × (code_in 2 9 (parts_of (uri_of setup)) ≡ 3) × (text_in 10 (parts_of (uri_of setup)) ≡ text "0,16,50,104,166,1707") × (code_in 2 5 (parts_of (uri_of setup)) ≡ 0)
 unfolding request_refusal head_refusal cseq_of is_laid_out request_line header_lines method_of uri_refusal is_uri stream_of_path attribute_in attribute_of value_of frequency are_pids place_among read_number read_hex8 code_in text_in session_of transport_of
 setup_read = (refl, refl, refl, refl, refl, refl, refl, refl, refl)
 
@@ -38,7 +35,7 @@ setup_read = (refl, refl, refl, refl, refl, refl, refl, refl, refl)
 abbrev multicast : List ℕ
 multicast = text "SETUP rtsp://192.168.128.5/?src=1&fe=1&freq=12402&pol=v&msys=dvbs&sr=27500&fec=34&pids=0,16,50,104,166,1707 RTSP/1.0\r\nCSeq: 1\r\nTransport: RTP/AVP;multicast;port=5004-5005\r\n\r\n"
 
-pub multicast_read : (request_refusal 2 multicast ≡ Passed) × (transport multicast ≡ Other)
+pub multicast_read : (request_refusal 2 multicast ≡ Passed) × (transport multicast ≡ None)
 unfolding request_refusal head_refusal cseq_of is_laid_out request_line header_lines method_of uri_refusal is_uri stream_of_path attribute_in attribute_of value_of frequency are_pids place_among read_number read_hex8 code_in text_in session_of transport_of
 multicast_read = (refl, refl)
 
@@ -46,7 +43,7 @@ multicast_read = (refl, refl)
 abbrev play : List ℕ
 play = text "PLAY rtsp://192.168.128.5/stream=1 RTSP/1.0\r\nCSeq: 2\r\nSession: 12345678\r\n\r\n"
 
-pub play_read : (request_refusal 2 play ≡ Passed) × (stream_named (uri_of play) ≡ Number 1) × (session play ≡ Named 305419896) × (host_of (uri_of play) ≡ text "192.168.128.5")
+pub play_read : (request_refusal 2 play ≡ Passed) × (stream_named (uri_of play) ≡ Some 1) × (session play ≡ Named 305419896) × (host_of (uri_of play) ≡ text "192.168.128.5")
 unfolding request_refusal head_refusal cseq_of is_laid_out request_line header_lines method_of uri_refusal is_uri stream_of_path attribute_in attribute_of value_of frequency are_pids place_among read_number read_hex8 code_in text_in session_of transport_of
 play_read = (refl, refl, refl, refl)
 
@@ -74,7 +71,7 @@ options_read = (refl, refl, refl, refl)
 abbrev join : List ℕ
 join = text "SETUP rtsp://192.168.128.192:554/stream=27 RTSP/1.0\r\nCSeq:1\r\nTransport: RTP/AVP;unicast;client_port=42494-42495\r\nConnection:close\r\n\r\n"
 
-pub join_read : (request_refusal 2 join ≡ Passed) × (stream_named (uri_of join) ≡ Number 27) × (transport join ≡ Port 42494)
+pub join_read : (request_refusal 2 join ≡ Passed) × (stream_named (uri_of join) ≡ Some 27) × (transport join ≡ Some 42494)
 unfolding request_refusal head_refusal cseq_of is_laid_out request_line header_lines method_of uri_refusal is_uri stream_of_path attribute_in attribute_of value_of frequency are_pids place_among read_number read_hex8 code_in text_in session_of transport_of
 join_read = (refl, refl, refl)
 

@@ -3,7 +3,7 @@ ghost use Rattle.std.specs.Prelude.{◌≡◌};
 ghost use Rattle.reader.specs.Fields.{port_from, ports_in, transport_of};
 ghost use Rattle.reader.specs.Heads.{session_in, is_pair};
 
-use digits::{Read, Zeros};
+use digits::Zeros;
 use scan::Class;
 
 // The Session header: whether it was sent, and the number that it names.
@@ -14,22 +14,14 @@ pub enum Session {
     Named(u32),
 }
 
-// The Transport header: the first of the two ports, where it is of the one form allowed.
-#[derive(Clone, Copy)]
-pub enum Transport {
-    Other,
-    Port(u32),
-}
-
 // What a Session header's value says, up to its first semicolon.
 pub(crate) fn session_in(value: &[u8]) -> Session
     ensures { result ≡ session_in value.now }
 {
     let end = scan::first_in(value, Class::Is(b';'));
-    let number = digits::hex_number(&value[0..end]);
-    match number {
-        Read::Value(n) => Session::Named(n),
-        Read::Nothing => Session::Malformed,
+    match digits::hex_number(&value[0..end]) {
+        Some(n) => Session::Named(n),
+        None => Session::Malformed,
     }
 }
 
@@ -39,29 +31,21 @@ fn is_pair(a: u32, b: u32) -> bool
     (a % 2 == 0) & (b as u64 == a as u64 + 1)
 }
 
-fn port_from(a: Read, b: Read) -> Transport
+fn port_from(a: Option<u32>, b: Option<u32>) -> Option<u32>
     ensures { result ≡ port_from a b }
 {
-    let Read::Value(first) = a else {
-        return Transport::Other;
-    };
-    let Read::Value(second) = b else {
-        return Transport::Other;
-    };
-    if is_pair(first, second) {
-        Transport::Port(first)
-    } else {
-        Transport::Other
-    }
+    let first = a?;
+    let second = b?;
+    is_pair(first, second).then_some(first)
 }
 
 // The ports `a-b`.
-fn ports_in(ports: &[u8]) -> Transport
+fn ports_in(ports: &[u8]) -> Option<u32>
     ensures { result ≡ ports_in ports.now }
 {
     let dash = scan::first_in(ports, Class::Is(b'-'));
     if dash == ports.len() {
-        return Transport::Other;
+        return None;
     }
     let second = dash + 1;
     let a = digits::number(&ports[0..dash], Zeros::Refused, 5, 65534);
@@ -69,12 +53,12 @@ fn ports_in(ports: &[u8]) -> Transport
     port_from(digits::at_least(1024, a), b)
 }
 
-// What a Transport header's value says.
-pub(crate) fn transport_in(value: &[u8]) -> Transport
+// What a Transport header's value says: the first of the two ports, where it is of the one form allowed.
+pub(crate) fn transport_in(value: &[u8]) -> Option<u32>
     ensures { result ≡ transport_of value.now }
 {
     if !target::starts_with(b"RTP/AVP;unicast;client_port=", value) {
-        return Transport::Other;
+        return None;
     }
     ports_in(&value[28..])
 }

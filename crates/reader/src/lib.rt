@@ -11,7 +11,7 @@ ghost use Rattle.reader.specs.Fields.{transport_of};
 ghost use Rattle.reader.specs.Heads.{CseqSeen, CseqIs, StandsIn, head_text, session_seen, are_twice, Begun, Headed, Passing, refused_request, RequestIs, is_other, method_in};
 
 use aim::{Aim, Method};
-pub use fields::{Session, Transport};
+pub use fields::Session;
 use lines::{Lines, Name, Seen};
 use refusals::Refusal;
 use scan::{Case, Span};
@@ -31,7 +31,8 @@ pub struct Request {
     pub query: Span,
     pub require: Span,
     pub session: Session,
-    pub transport: Transport,
+    // The first of the two ports of a Transport header, where it is of the one form allowed.
+    pub transport: Option<u32>,
 }
 
 fn refuse(refusal: Refusal, cseq: Span, require: Span) -> Request
@@ -48,7 +49,7 @@ fn refuse(refusal: Refusal, cseq: Span, require: Span) -> Request
         query: Span { start: 0, end: 0 },
         require,
         session: Session::Absent,
-        transport: Transport::Other,
+        transport: None,
     }
 }
 
@@ -75,13 +76,11 @@ fn session_at(s: &[u8], seen: Seen) -> Session
     fields::session_in(&s[start..end])
 }
 
-fn transport_at(s: &[u8], seen: Seen) -> Transport
+fn transport_at(s: &[u8], seen: Seen) -> Option<u32>
     requires { StandsIn s.now seen }
     ensures { result ≡ transport_of (head_text s.now seen) }
 {
-    let Some(value) = seen.first() else {
-        return Transport::Other;
-    };
+    let value = seen.first()?;
     let start = value.start;
     let end = value.end;
     fields::transport_in(&s[start..end])

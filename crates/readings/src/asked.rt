@@ -1,7 +1,7 @@
 // What a request asks, in words and numbers.
 use crate::out;
 use aim::Method;
-use reader::{Request, Session, Transport};
+use reader::{Request, Session};
 use refusals::Refusal;
 use std::io;
 
@@ -23,10 +23,10 @@ fn session(rt: &impl Print, s: Session) -> io::Result<()> {
     }
 }
 
-fn transport(rt: &impl Print, t: Transport) -> io::Result<()> {
-    match t {
-        Transport::Other => print!(rt; " port -"),
-        Transport::Port(port) => print!(rt; " port {port}"),
+fn transport(rt: &impl Print, port: Option<u32>) -> io::Result<()> {
+    match port {
+        None => print!(rt; " port -"),
+        Some(port) => print!(rt; " port {port}"),
     }
 }
 

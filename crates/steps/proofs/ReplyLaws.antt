@@ -7,13 +7,14 @@ use native.Mathlib.Omega.{arith}
 use lib.Dec.{eqb, ltb}
 use lib.ListN.{length}
 use borrow.Author.Tests.{eqb-true, eqb-false}
+use Rattle.std.specs.Prelude.{is_some}
 use Rattle.scan.specs.Lists.{all, ◌gives◌or◌}
 use Rattle.scan.specs.Found.{text_at}
 use Rattle.scan.specs.declared.Span.{Span}
 use Rattle.scan.proofs.Bools.{never, by_test, cond_keeps}
 use Rattle.scan.specs.Text.{is_empty}
 use Rattle.scan.proofs.Parts.{text_held, text_within, text_nowhere}
-use Rattle.digits.specs.Reading.{read_in, is_value, digits_read}
+use Rattle.digits.specs.Reading.{read_in, digits_read}
 use Rattle.digits.proofs.Limits.{are_digits_law}
 use Rattle.lines.specs.Lines.{is_laid_out, request_line, header_lines}
 use Rattle.lines.specs.Headers.{values_of}
@@ -266,7 +267,7 @@ cseq_short s =
     let v = first_value vs in
     cond_keeps IsShort (is_laid_out s) (cond (eqb (length vs) 1) (digits_read 10 cseq_most cseq_limit v) []) []
     (λ _. cond_keeps IsShort (eqb (length vs) 1) (digits_read 10 cseq_most cseq_limit v) []
-    (λ _. cond_keeps IsShort (is_value (read_in 10 cseq_most cseq_limit v)) v [] (λ y. omega (arith, (are_digits_law 10 cseq_most cseq_limit v y).few)) (λ _. omega arith))
+    (λ _. cond_keeps IsShort (is_some (read_in 10 cseq_most cseq_limit v)) v [] (λ y. omega (arith, (are_digits_law 10 cseq_most cseq_limit v y).few)) (λ _. omega arith))
     (λ _. omega arith))
     (λ _. omega arith)
 

@@ -16,9 +16,8 @@ use Rattle.scan.proofs.Bools.{by_cases, cond_keeps, and_both, or_right}
 use Rattle.scan.proofs.Parts.{holds_length}
 use Rattle.digits.specs.Reading.{read_number, at_least}
 use Rattle.digits.specs.declared.Zeros.TheVariants.{Allowed, Refused}
-use Rattle.digits.specs.declared.Read.{Read}
-use Rattle.digits.specs.declared.Read.TheVariants.{Value, Nothing}
-use Rattle.digits.proofs.Limits.{IsRead, number_between}
+use Rattle.std.specs.Prelude.{Option, Some, None, IfSome}
+use Rattle.digits.proofs.Limits.{number_between}
 use Rattle.lines.specs.Lines.{is_laid_out}
 use Rattle.target.specs.Uri.{starts_with, query_of}
 use Rattle.tuning.specs.Values.{value_of}
@@ -29,8 +28,6 @@ use Rattle.refusals.specs.declared.Refusal.{Refusal}
 use Rattle.refusals.specs.declared.Refusal.TheVariants.{Passed, Layout}
 use Rattle.reader.specs.Fields.{transport_of, ports_in, port_from}
 use Rattle.reader.specs.Heads.{is_pair, dash, RequestIs}
-use Rattle.reader.specs.declared.fields.Transport.{Transport}
-use Rattle.reader.specs.declared.fields.Transport.TheVariants.{Other, Port}
 use Rattle.reader.specs.Request.{uri_of, head_refusal, request_refusal}
 use Rattle.reader.specs.declared.Request.{Request}
 use Rattle.steps.specs.Sights.{codes_in, asked_of, lists_of}
@@ -84,13 +81,13 @@ module _ (frontends : ℕ) (s : List ℕ) (r : Request) (i : RequestIs frontends
 
 -- WHAT IS READ OF A TEXT IS IN RANGE
 -- a code is 0 or read of a text
-pub code_keeps : (P : ℕ → Type 0) (frontends a : ℕ) (u : List ℕ) → P 0 → ((xs : List ℕ) (c : ℕ) → value_of frontends a xs ≡ Value c → P c) → P (code_in frontends a (parts_of u))
+pub code_keeps : (P : ℕ → Type 0) (frontends a : ℕ) (u : List ℕ) → P 0 → ((xs : List ℕ) (c : ℕ) → value_of frontends a xs ≡ Some c → P c) → P (code_in frontends a (parts_of u))
 unfolding code_in
 code_keeps P frontends a u z h = one (value_of frontends a (text_in a (parts_of u))) (h (text_in a (parts_of u)))
   where
-    one : (r : Read) → ((c : ℕ) → r ≡ Value c → P c) → P (code_from r)
-    one (Value c) k = k c refl
-    one Nothing k = z
+    one : (r : Option ℕ) → ((c : ℕ) → r ≡ Some c → P c) → P (code_from r)
+    one (Some c) k = k c refl
+    one None k = z
 
 pub asked_fit : (frontends : ℕ) (s : List ℕ) → are_fit (asked_of frontends s).codes ≡ true
 asked_fit frontends s = fit_of (codes_in frontends (uri_of s)) fits
@@ -105,27 +102,26 @@ unfolding value_of
 asked_fe frontends s =
     rw (code_at frontends 1 (uri_of s) (omega arith))
     (code_keeps (λ c. c ≤ frontends) frontends 1 (uri_of s) (omega arith)
-    (λ xs c e. (subst (IsRead (λ v. (1 ≤ v) × (v ≤ frontends))) e (number_between Allowed 5 1 frontends xs)).1))
+    (λ xs c e. (subst (λ r. IfSome r (λ v. (1 ≤ v) × (v ≤ frontends))) e (number_between Allowed 5 1 frontends xs)).1))
 
 -- the first of the two ports of a Transport that is of its form
 abbrev IsPort : ℕ → Type 0
 IsPort p = (1024 ≤ p) × (p ≤ 65534) × (p % 2 ≡ 0)
 
-abbrev IsTransport : Transport → Type 0
-IsTransport Other = Unit {0}
-IsTransport (Port p) = IsPort p
+abbrev IsTransport : Option ℕ → Type 0
+IsTransport port = IfSome port IsPort
 
-ports_paired : (a b : Read) → IsRead (λ v. (1024 ≤ v) × (v ≤ 65534)) a → IsTransport (port_from a b)
-ports_paired (Value a) (Value b) h =
-    cond_keeps IsTransport (is_pair a b) (Port a) Other (λ e. (h.0, h.1, eqb-true (a % 2) 0 (and_both (eqb (a % 2) 0) _ e).0)) (λ _. tt)
-ports_paired (Value a) Nothing h = tt
-ports_paired Nothing b h = tt
+ports_paired : (a b : Option ℕ) → IfSome a (λ v. (1024 ≤ v) × (v ≤ 65534)) → IsTransport (port_from a b)
+ports_paired (Some a) (Some b) h =
+    cond_keeps IsTransport (is_pair a b) (Some a) None (λ e. (h.0, h.1, eqb-true (a % 2) 0 (and_both (eqb (a % 2) 0) _ e).0)) (λ _. tt)
+ports_paired (Some a) None h = tt
+ports_paired None b h = tt
 
-pub asked_port : (v : List ℕ) (port : ℕ) → transport_of v ≡ Port port → (1024 ≤ port) × (port ≤ 65534) × (port % 2 ≡ 0)
+pub asked_port : (v : List ℕ) (port : ℕ) → transport_of v ≡ Some port → (1024 ≤ port) × (port ≤ 65534) × (port % 2 ≡ 0)
 unfolding transport_of
 asked_port v port e =
     subst IsTransport e
-    (cond_keeps IsTransport (starts_with (text "RTP/AVP;unicast;client_port=") v) (ports_in (drop 28 v)) Other
+    (cond_keeps IsTransport (starts_with (text "RTP/AVP;unicast;client_port=") v) (ports_in (drop 28 v)) None
     (λ _. let ports = drop 28 v in
     ports_paired (at_least 1024 (read_number Refused 5 65534 (part 0 (dash ports) ports))) _ (number_between Refused 5 1024 65534 (part 0 (dash ports) ports)))
     (λ _. tt))

@@ -1,5 +1,5 @@
 -- What a request asks, once steps 1 to 10 have let it through, and what steps 11 to 15 look at, gathered from it and a table. Assumes nothing.
-use Rattle.std.specs.Prelude.{ℕ, Bool, true, false, cond, List, [], ◌∷◌, map, ltb, eqb, length, get_or}
+use Rattle.std.specs.Prelude.{ℕ, Bool, true, false, cond, List, [], ◌∷◌, map, ltb, eqb, length, get_or, Option, unwrap_or}
 use Rattle.lines.specs.Lines.{header_lines}
 use Rattle.lines.specs.Headers.{values_of}
 use Rattle.target.specs.Uri.{stream_named, query_of}
@@ -8,9 +8,7 @@ use Rattle.aim.specs.declared.Method.{Method}
 use Rattle.reader.specs.Fields.{session_of, transport_of}
 use Rattle.reader.specs.Request.{method_of, uri_of}
 use Rattle.reader.specs.declared.fields.Session.{Session as Sent}
-use Rattle.reader.specs.declared.fields.Transport.{Transport}
 use Rattle.reader.specs.declared.fields.Session.TheVariants.{Absent, Malformed, Named}
-use Rattle.reader.specs.declared.fields.Transport.TheVariants.{Other, Port}
 use Rattle.table.specs.Table.{has_number, session_at, stream_of}
 use Rattle.table.specs.Reach.{set_of}
 use Rattle.scan.specs.Lists.{first}
@@ -24,7 +22,7 @@ pub record Asked : Type 0 where
   pub codes : List ℕ
   pub query : Bool
   pub session : Sent
-  pub transport : Transport
+  pub transport : Option ℕ
 
 -- the lists of PIDs as they are written
 pub record Lists : Type 0 where
@@ -66,9 +64,8 @@ abbrev pub place_named : Sent → SatBox → ℕ
 place_named sent t = cond (eqb (session_number sent) 0) 32 (first (has_number (session_number sent)) t.sessions)
 
 -- the first of the two ports; 0 where the Transport is not of its form
-abbrev pub port_of : Transport → ℕ
-port_of Other = 0
-port_of (Port port) = port
+abbrev pub port_of : Option ℕ → ℕ
+port_of transport = unwrap_or transport 0
 
 -- a request beside what is looked up for it: a place, the session there, and a frontend with, order 1, what it reaches; src and fe stand at places
 -- 0 and 1 of document 01's table

@@ -8,12 +8,12 @@ mod tests;
 
 ghost use Rattle.std.specs.Prelude.{◌≡◌};
 ghost use Rattle.steps.specs.Handed.{asked_by, sighted};
-ghost use Rattle.steps.specs.Sights.{is_absent, session_number, port_of};
+ghost use Rattle.steps.specs.Sights.{is_absent, session_number};
 ghost use Rattle.steps.specs.Steps.{table_case};
 
 use aim::Method;
 pub use cases::{Case, is_passed};
-use reader::{Request, Transport};
+use reader::Request;
 pub use replies::answer_to;
 use table::Session;
 
@@ -47,18 +47,8 @@ pub fn number_of(sent: reader::Session) -> u32
     ensures { result ≡ session_number sent }
 {
     match sent {
-        reader::Session::Absent => 0,
-        reader::Session::Malformed => 0,
+        reader::Session::Absent | reader::Session::Malformed => 0,
         reader::Session::Named(n) => n,
-    }
-}
-
-fn port_of(transport: Transport) -> u32
-    ensures { result ≡ port_of transport }
-{
-    match transport {
-        Transport::Other => 0,
-        Transport::Port(port) => port,
     }
 }
 
@@ -74,7 +64,7 @@ pub fn sight_of(r: Request, place: usize, session: Session, frontend: u8, reach:
         fe: r.codes[1],
         src: r.codes[0],
         query: r.query.start < r.query.end,
-        port: port_of(r.transport),
+        port: r.transport.unwrap_or(0),
         place,
         session,
         frontend,

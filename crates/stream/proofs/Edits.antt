@@ -5,18 +5,17 @@ use Prim.Native.Nat.{ℕ, suc, ◌≤◌, ◌<◌}
 use native.Mathlib.Omega.{arith}
 use lib.ListN.{length, take, drop}
 use lib.Seq.{length-take-le}
-use Rattle.digits.specs.declared.Read.{Read}
-use Rattle.digits.specs.declared.Read.TheVariants.{Value, Nothing}
+use Rattle.std.specs.Prelude.{Option, Some, None, IfSome}
 use Rattle.digits.specs.declared.Zeros.TheVariants.{Allowed}
-use Rattle.digits.proofs.Limits.{IsRead, number_most}
+use Rattle.digits.proofs.Limits.{number_most}
 use Rattle.stream.specs.Pids.{added, removed}
 use Rattle.stream.specs.Arrays.{read_pid, There, Missing, Placed, Front, Held, once}
 use Rattle.stream.specs.declared.pids.Place.{Place}
 use Rattle.stream.specs.declared.pids.Place.TheVariants.{At, Before}
 
 -- a PID is at most 8191
-pub pid_most : (xs : List ℕ) {v : ℕ} → read_pid xs ≡ Value v → v ≤ 8191
-pid_most xs e = subst (IsRead (λ v. v ≤ 8191)) e (number_most Allowed 5 8191 xs)
+pub pid_most : (xs : List ℕ) {v : ℕ} → read_pid xs ≡ Some v → v ≤ 8191
+pid_most xs e = subst (λ r. IfSome r (λ v. v ≤ 8191)) e (number_most Allowed 5 8191 xs)
 
 -- nothing is changed
 pub front_same : (a : List ℕ) (count : ℕ) {l : List ℕ} → l ≡ take count a → count ≤ 32 → Front l a count
@@ -28,19 +27,19 @@ held_front {l} {a} {n} h f =
     let k : length l ≡ n = ap length (sym f.is) ∙ length-take-le n a (omega arith) in
     record { count = omega arith; is = λ z. f.is }
 
-module _ (xs : List ℕ) {r : Read} (read : r ≡ read_pid xs) where
-  pub pid_small : {v : ℕ} → r ≡ Value v → v ≤ 8191
+module _ (xs : List ℕ) {r : Option ℕ} (read : r ≡ read_pid xs) where
+  pub pid_small : {v : ℕ} → r ≡ Some v → v ≤ 8191
   pid_small e = pid_most xs (sym read ∙ e)
 
   module _ (a : List ℕ) (count : ℕ) where
-    module _ (none : r ≡ Nothing) (h : count ≤ 32) where
+    module _ (none : r ≡ None) (h : count ≤ 32) where
       pub remove_none : Front (once removed (read_pid xs) (take count a)) a count
       remove_none = front_same a count (rw (sym read ∙ none)) h
 
       pub add_none : length a ≡ 32 → Held (once added (read_pid xs) (take count a)) a count
       add_none k = held_front k (front_same a count (rw (sym read ∙ none)) h)
 
-    module _ {v : ℕ} {p : Place} (one : r ≡ Value v) (placed : Placed v (take count a) p) where
+    module _ {v : ℕ} {p : Place} (one : r ≡ Some v) (placed : Placed v (take count a) p) where
       pub add_there : {i : ℕ} → p ≡ At i → count ≤ 32 → length a ≡ 32 → Held (once added (read_pid xs) (take count a)) a count
       add_there {i} e h k =
           let t : There v (take count a) i = subst (Placed v (take count a)) e placed in

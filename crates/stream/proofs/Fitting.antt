@@ -12,9 +12,9 @@ use Rattle.scan.specs.Text.{text, ◌&◌, cut, before, after, place_among}
 use Rattle.scan.specs.Lists.{is_between, all}
 use Rattle.scan.specs.declared.Case.TheVariants.{Counts}
 use Rattle.scan.proofs.Bools.{never, and_both, by_test, both, or_right}
-use Rattle.digits.specs.declared.Read.TheVariants.{Value, Nothing}
+use Rattle.std.specs.Prelude.{Some, None, IfSome}
 use Rattle.digits.specs.declared.Zeros.TheVariants.{Allowed}
-use Rattle.digits.proofs.Limits.{IsRead, number_between}
+use Rattle.digits.proofs.Limits.{number_between}
 use Rattle.digits.specs.Reading.{read_number, at_least}
 use Rattle.tuning.specs.Values.{plain, word, frequency, value_of, is_megahertz}
 use Rattle.stream.specs.Values.{are_in_range, given, merged}
@@ -59,30 +59,30 @@ merged_ranged v codes f =
     one a k old h = given_ranged a (get_or codes a 0) old (all_in (λ b. is_fit b (get_or codes b 0)) kept a f k) h
 
 -- what is read of a text is in range
-none_read : {c : ℕ} {P : Type 0} → Nothing ≡ Value c → P
+none_read : {c : ℕ} {P : Type 0} → None ≡ Some c → P
 none_read e = let z : ◌≡◌ {A = ℕ} 0 1 = cc in absurd (omega arith)
 
-same_read : {v c : ℕ} → Value v ≡ Value c → v ≡ c
+same_read : {v c : ℕ} → Some v ≡ Some c → v ≡ c
 same_read e = cc
 
-number_ranged : (most low high : ℕ) (xs : List ℕ) {c : ℕ} → at_least low (read_number Allowed most high xs) ≡ Value c → is_between low high c ≡ true
+number_ranged : (most low high : ℕ) (xs : List ℕ) {c : ℕ} → at_least low (read_number Allowed most high xs) ≡ Some c → is_between low high c ≡ true
 number_ranged most low high xs {c} e =
-    let b = subst (IsRead (λ v. (low ≤ v) × (v ≤ high))) e (number_between Allowed most low high xs) in both (le-leb low c b.0) (le-leb c high b.1)
+    let b = subst (λ r. IfSome r (λ v. (low ≤ v) × (v ≤ high))) e (number_between Allowed most low high xs) in both (le-leb low c b.0) (le-leb c high b.1)
 
-plain_between : (low high : ℕ) (xs : List ℕ) {c : ℕ} → plain low high xs ≡ Value c → is_between low high c ≡ true
+plain_between : (low high : ℕ) (xs : List ℕ) {c : ℕ} → plain low high xs ≡ Some c → is_between low high c ≡ true
 plain_between low high xs e = number_ranged 5 low high xs e
 
-word_most : (words xs : List ℕ) {c : ℕ} → word words xs ≡ Value c → c ≤ length (cut 32 words)
+word_most : (words xs : List ℕ) {c : ℕ} → word words xs ≡ Some c → c ≤ length (cut 32 words)
 word_most words xs {c} e =
-    by_test (λ t. cond t (Value (place_among Counts words xs + 1)) Nothing ≡ Value c → c ≤ length (cut 32 words))
+    by_test (λ t. cond t (Some (place_among Counts words xs + 1)) None ≡ Some c → c ≤ length (cut 32 words))
     (ltb (place_among Counts words xs) (length (cut 32 words)))
     (λ y z. let s : place_among Counts words xs + 1 ≡ c = same_read z in omega (arith, ltb-true (place_among Counts words xs) (length (cut 32 words)) y))
     (λ n z. none_read z) e
 
-frequency_between : (xs : List ℕ) {c : ℕ} → frequency xs ≡ Value c → is_between 1070000 1275000 c ≡ true
+frequency_between : (xs : List ℕ) {c : ℕ} → frequency xs ≡ Some c → is_between 1070000 1275000 c ≡ true
 unfolding frequency
 frequency_between xs {c} e =
-    by_test (λ t. cond t (at_least 1070000 (read_number Allowed 7 1275000 (before 46 xs & take 2 (after 46 xs & text "00")))) Nothing ≡ Value c → is_between 1070000 1275000 c ≡ true) (is_megahertz xs)
+    by_test (λ t. cond t (at_least 1070000 (read_number Allowed 7 1275000 (before 46 xs & take 2 (after 46 xs & text "00")))) None ≡ Some c → is_between 1070000 1275000 c ≡ true) (is_megahertz xs)
     (λ _ z. number_ranged 7 1070000 1275000 (before 46 xs & take 2 (after 46 xs & text "00")) z)
     (λ _ z. none_read z) e
 
@@ -91,10 +91,10 @@ in_front P a x l p f =
     by_test (λ t. t || is_in a l ≡ true → P a) (eqb a x) (λ y z. subst P (sym (eqb-true a x y)) p) (λ n z. f z)
 
 -- at each of the places, as the table there is read
-pub read_ranged : (f a : ℕ) (xs : List ℕ) (c : ℕ) → is_in a kept ≡ true → value_of f a xs ≡ Value c → is_in_range a c ≡ true
+pub read_ranged : (f a : ℕ) (xs : List ℕ) (c : ℕ) → is_in a kept ≡ true → value_of f a xs ≡ Some c → is_in_range a c ≡ true
 unfolding value_of is_in_range
 read_ranged f a xs c =
-    let P : ℕ → Type 0 = λ b. value_of f b xs ≡ Value c → is_in_range b c ≡ true in
+    let P : ℕ → Type 0 = λ b. value_of f b xs ≡ Some c → is_in_range b c ≡ true in
     in_front P a 0 (drop 1 kept) (λ e. plain_between 1 4 xs e)
     (in_front P a 2 (drop 2 kept) (λ e. or_right (eqb c 0) (frequency_between xs e))
     (in_front P a 3 (drop 3 kept) (λ e. le-leb c 4 (word_most (text "h v l r") xs e))

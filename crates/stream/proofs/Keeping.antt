@@ -13,8 +13,7 @@ use borrow.Author.Tests.{le-leb, leb-true, eqb-true, eqb-false, le-ltb, ltb-fals
 use Rattle.scan.specs.Lists.{all}
 use Rattle.scan.specs.Text.{cut}
 use Rattle.scan.proofs.Bools.{never, and_both, by_test, both}
-use Rattle.digits.specs.declared.Read.{Read}
-use Rattle.digits.specs.declared.Read.TheVariants.{Value, Nothing}
+use Rattle.std.specs.Prelude.{Option, Some, None}
 use Rattle.stream.specs.Values.{go_together, given, merged}
 use Rattle.stream.specs.Pids.{added, removed, with_number, numbers_in, obeyed, Choice, replaced, edited, chosen, choice_of, is_padded, is_choice}
 use Rattle.stream.specs.Arrays.{read_pid, are_too_many, laid_out, are_fit, is_low, rises, numbers_read, added_all}
@@ -30,9 +29,9 @@ use Rattle.stream.proofs.Padding.{Padded, padded_is, padded_laid}
 use Rattle.stream.proofs.Soundness.{Live, sound_live, live_sound}
 
 -- the numbers of a text are PIDs
-with_low : (r : Read) (l : List ℕ) → ((v : ℕ) → r ≡ Value v → v ≤ 8191) → all is_low l ≡ true → all is_low (with_number r l) ≡ true
-with_low (Value v) l h e = both (le-leb v 8191 (h v refl)) e
-with_low Nothing l h e = e
+with_low : (r : Option ℕ) (l : List ℕ) → ((v : ℕ) → r ≡ Some v → v ≤ 8191) → all is_low l ≡ true → all is_low (with_number r l) ≡ true
+with_low (Some v) l h e = both (le-leb v 8191 (h v refl)) e
+with_low None l h e = e
 
 numbers_of_low : (pieces : List (List ℕ)) → all is_low (numbers_read pieces) ≡ true
 numbers_of_low [] = refl

@@ -12,8 +12,7 @@ use Rattle.scan.specs.Lists.{part}
 use Rattle.scan.specs.Found.{FirstFrom, cut_from}
 use Rattle.scan.specs.Text.{is}
 use Rattle.scan.proofs.Cuts.{cut_start, cut_turn, cut_end}
-use Rattle.digits.specs.declared.Read.{Read}
-use Rattle.digits.specs.declared.Read.TheVariants.{Value, Nothing}
+use Rattle.std.specs.Prelude.{Option, Some, None}
 use Rattle.stream.specs.Pids.{added, removed, with_number, numbers_in, obeyed}
 use Rattle.stream.specs.Arrays.{read_pid, with_text, numbers_read, Front, Held, once}
 use Rattle.stream.proofs.Edits.{front_same, held_front}
@@ -30,9 +29,9 @@ unfolding numbers_in
 obeying_start edit text a count h k =
     record { long = k; small = h; inside = omega arith; same = ap (λ ps. obeyed edit (numbers_read ps) (take count a)) (sym (cut_start 44 text)) }
 
-one_more : (edit : ℕ → List ℕ → List ℕ) (r : Read) (ps l : List ℕ) → obeyed edit (with_number r ps) l ≡ obeyed edit ps (once edit r l)
-one_more edit (Value v) ps l = refl
-one_more edit Nothing ps l = refl
+one_more : (edit : ℕ → List ℕ → List ℕ) (r : Option ℕ) (ps l : List ℕ) → obeyed edit (with_number r ps) l ≡ obeyed edit ps (once edit r l)
+one_more edit (Some v) ps l = refl
+one_more edit None ps l = refl
 
 module _ {edit : ℕ → List ℕ → List ℕ} {text a : List ℕ} {count : ℕ} {b : List ℕ} {n p : ℕ} (o : Obeying edit text a count b n p) where
   obeying_end : length text < p → obeyed edit (numbers_in text) (take count a) ≡ take n b

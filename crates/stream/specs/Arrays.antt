@@ -1,11 +1,9 @@
 -- What the crates promise each other of a stream's values and PIDs: each attribute by its place, ascending lists, and a list at the front of an array
 -- while it is edited. No call of the box reaches it. Assumes nothing.
-use Rattle.std.specs.Prelude.{ℕ, suc, ◌-◌, ◌≤◌, ◌<◌, min, ◌≡◌, Bool, true, false, cond, ◌&&◌, ◌||◌, eqb, leb, ltb, length, take, drop, get_or, replicate}
+use Rattle.std.specs.Prelude.{ℕ, suc, ◌-◌, ◌≤◌, ◌<◌, min, ◌≡◌, Bool, true, false, cond, ◌&&◌, ◌||◌, eqb, leb, ltb, length, take, drop, get_or, replicate, Option, Some, None}
 use mathlib.Core.List.{List, [], ◌∷◌, ◌++◌, foldr}
 use Rattle.scan.specs.Lists.{is_between, all}
 use Rattle.digits.specs.Reading.{read_number}
-use Rattle.digits.specs.declared.Read.{Read}
-use Rattle.digits.specs.declared.Read.TheVariants.{Value, Nothing}
 use Rattle.digits.specs.declared.Zeros.TheVariants.{Allowed}
 use Rattle.stream.specs.Values.{is_missing_or}
 use Rattle.stream.specs.Pids.{added, removed, with_number, numbers_in, obeyed, Choice}
@@ -23,7 +21,7 @@ most = 32
 abbrev pub are_too_many : Choice → Bool
 are_too_many c = ltb most (length c.list)
 
-abbrev pub read_pid : List ℕ → Read
+abbrev pub read_pid : List ℕ → Option ℕ
 read_pid piece = read_number Allowed 5 highest piece
 
 -- the first of some tests that holds says which
@@ -107,9 +105,9 @@ pub record Held (l a : List ℕ) (n : ℕ) : Type 0 where
   pub is : n ≤ most → take n a ≡ l
 
 -- what one piece of a text does to a list: a piece that is no PID does nothing
-abbrev pub once : (ℕ → List ℕ → List ℕ) → Read → List ℕ → List ℕ
-once edit (Value p) l = edit p l
-once edit Nothing l = l
+abbrev pub once : (ℕ → List ℕ → List ℕ) → Option ℕ → List ℕ → List ℕ
+once edit (Some p) l = edit p l
+once edit None l = l
 
 -- the numbers of a text obeyed; code 0 where it is not given
 abbrev pub with_text : (ℕ → List ℕ → List ℕ) → ℕ → List ℕ → List ℕ → List ℕ

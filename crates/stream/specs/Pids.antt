@@ -1,11 +1,9 @@
 -- A stream's PIDs, "ascending without repeats", 32 at most, or "all"; and what pids, delpids and addpids make of them. Assumes nothing.
-use Rattle.std.specs.Prelude.{ℕ, zero, suc, Bool, false, not, cond, ◌&&◌, ◌||◌, eqb, leb, ltb, get_or, take}
+use Rattle.std.specs.Prelude.{ℕ, zero, suc, Bool, false, not, cond, ◌&&◌, ◌||◌, eqb, leb, ltb, get_or, take, Option, Some, None}
 use mathlib.Core.List.{List, [], ◌∷◌, foldr, foldl}
 use Rattle.scan.specs.Lists.{all}
 use Rattle.scan.specs.Text.{cut}
 use Rattle.digits.specs.Reading.{read_number}
-use Rattle.digits.specs.declared.Read.{Read}
-use Rattle.digits.specs.declared.Read.TheVariants.{Value, Nothing}
 use Rattle.digits.specs.declared.Zeros.TheVariants.{Allowed}
 use Rattle.stream.specs.Values.{is_zero}
 use Rattle.stream.specs.declared.Stream.{Stream}
@@ -21,9 +19,9 @@ removed p [] = []
 removed p (q ∷ l) = cond (ltb p q) (q ∷ l) (cond (eqb p q) l (q ∷ removed p l))
 
 -- "numbers 0 to 8191 joined by commas", in the order in which they stand; any other piece is passed over
-abbrev pub with_number : Read → List ℕ → List ℕ
-with_number (Value p) l = p ∷ l
-with_number Nothing l = l
+abbrev pub with_number : Option ℕ → List ℕ → List ℕ
+with_number (Some p) l = p ∷ l
+with_number None l = l
 
 unfoldable pub numbers_in : List ℕ → List ℕ
 numbers_in text = foldr (λ piece l. with_number (read_number Allowed 5 8191 piece) l) [] (cut 44 text)

@@ -8,7 +8,7 @@ ghost use Rattle.stream.specs.Pids.{is_padded, added, removed, replaced, edited,
 ghost use Rattle.stream.specs.Arrays.{read_pid, with_text, laid_out, Chosen, Placed, Front, Held, once};
 
 use crate::Stream;
-use digits::{Read, Zeros};
+use digits::Zeros;
 use scan::Class;
 
 // Whether an array is all zeros from a place on. There is no early way out, so that many places can be looked at at once.
@@ -128,17 +128,13 @@ fn add(list: &mut [u16], count: usize, piece: &[u8]) -> usize
     requires { (count ≤ 32) × (length list.old ≡ 32) }
     ensures { Held (once added (read_pid piece.now) (take count list.old)) list.new result }
 {
-    let read = digits::number(piece, Zeros::Allowed, 5, 8191);
-    match read {
-        Read::Value(p) => {
-            let pid = p as u16;
-            let place = place_of(list, count, pid);
-            match place {
-                Place::At(_) => count,
-                Place::Before(at) => insert(list, count, at, pid),
-            }
-        }
-        Read::Nothing => count,
+    let Some(p) = digits::number(piece, Zeros::Allowed, 5, 8191) else {
+        return count;
+    };
+    let pid = p as u16;
+    match place_of(list, count, pid) {
+        Place::At(_) => count,
+        Place::Before(at) => insert(list, count, at, pid),
     }
 }
 
@@ -147,17 +143,13 @@ fn remove(list: &mut [u16], count: usize, piece: &[u8]) -> usize
     requires { (count ≤ 32) × (length list.old ≡ 32) }
     ensures { Front (once removed (read_pid piece.now) (take count list.old)) list.new result }
 {
-    let read = digits::number(piece, Zeros::Allowed, 5, 8191);
-    match read {
-        Read::Value(p) => {
-            let pid = p as u16;
-            let place = place_of(list, count, pid);
-            match place {
-                Place::At(at) => take_out(list, count, at),
-                Place::Before(_) => count,
-            }
-        }
-        Read::Nothing => count,
+    let Some(p) = digits::number(piece, Zeros::Allowed, 5, 8191) else {
+        return count;
+    };
+    let pid = p as u16;
+    match place_of(list, count, pid) {
+        Place::At(at) => take_out(list, count, at),
+        Place::Before(_) => count,
     }
 }
 

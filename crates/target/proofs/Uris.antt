@@ -21,13 +21,11 @@ use Rattle.scan.proofs.Bools.{never, and_both, both, by_cases, Case, is as holds
 use Rattle.scan.proofs.Parts.{drop_take, part_length, part_part, part_rest, holds_inside, named_by, name_ends, name_whole, name_not}
 use Rattle.scan.proofs.Loops.{Seeking, seeking_start, seeking_more, seeking_block, first_within, first_passes, first_front, first_kept}
 use Rattle.scan.proofs.Compares.{alike_long, alike_equal}
-use Rattle.digits.specs.Reading.{digit_of, are_digits, spelled, is_value, at_least, read_number}
+use Rattle.digits.specs.Reading.{digit_of, are_digits, spelled, at_least, read_number}
 use Rattle.digits.specs.declared.Zeros.TheVariants.{Refused}
-use Rattle.digits.specs.declared.Read.{Read}
-use Rattle.digits.specs.declared.Read.TheVariants.{Value, Nothing}
 use Rattle.target.specs.Uri.{starts_with, rest_of, is_port, stream_of_path, stream_named, host_of, has_query, query_of, is_uri}
 use Rattle.target.specs.Steps.{question, slash, port_colon, is_host, UriIs, is_port_number, host_end}
-use Rattle.std.specs.Prelude.{Option, Some, None, IfSome}
+use Rattle.std.specs.Prelude.{Option, Some, None, IfSome, Option, Some, None, is_some}
 use Rattle.std.specs.Bool.{then_some}
 
 -- A TEXT THAT STARTS WITH ANOTHER is no shorter
@@ -91,22 +89,22 @@ host_none a e = go (is_host a && is_port a) e
     go false q = refl
 
 -- THE PATH
-pub stream_none : (p : List ℕ) → length p ≡ 0 → Value 0 ≡ stream_of_path p
+pub stream_none : (p : List ℕ) → length p ≡ 0 → Some 0 ≡ stream_of_path p
 unfolding stream_of_path
 stream_none [] h = refl
 stream_none (x ∷ p) h = absurd (omega arith)
 
 stream_by : (p : List ℕ) → (length p ≡ 0 → ⊥) → {t : Bool} → t ≡ starts_with (text "stream=") p
-    → stream_of_path p ≡ cond t (at_least 1 (read_number Refused 5 65535 (drop 7 p))) Nothing
+    → stream_of_path p ≡ cond t (at_least 1 (read_number Refused 5 65535 (drop 7 p))) None
 unfolding stream_of_path
 stream_by [] n e = absurd (n refl)
 stream_by (x ∷ p) n e = rw e
 
 module _ (p : List ℕ) (n : length p ≡ 0 → ⊥) {t : Bool} (e : t ≡ starts_with (text "stream=") p) where
-  pub stream_not : not t ≡ true → Nothing ≡ stream_of_path p
+  pub stream_not : not t ≡ true → None ≡ stream_of_path p
   stream_not y = sym (stream_by p n e ∙ rw (not-true t y))
 
-  pub stream_is : not t ≡ false → {v : Read} → v ≡ at_least 1 (read_number Refused 5 65535 (part 7 (length p) p)) → v ≡ stream_of_path p
+  pub stream_is : not t ≡ false → {v : Option ℕ} → v ≡ at_least 1 (read_number Refused 5 65535 (part 7 (length p) p)) → v ≡ stream_of_path p
   stream_is y {v} q = q ∙ rw (part_rest 7 (length p) p (omega arith)) (sym (stream_by p n e ∙ rw (not-false t y)))
 
 -- THE WHOLE
@@ -140,7 +138,7 @@ port_digits : (xs : List ℕ) → is_port_number xs ≡ true → are_digits 10 x
 unfolding read_number
 port_digits xs e = go (leb 1 (length xs)) (leb (length xs) 5) (are_digits 10 xs) (leb (spelled 10 xs) 65535) e
   where
-    go : (a b c d : Bool) → is_value (at_least 1 (cond (a && (b && (c && d))) (Value (spelled 10 xs)) Nothing)) ≡ true → c ≡ true
+    go : (a b c d : Bool) → is_some (at_least 1 (cond (a && (b && (c && d))) (Some (spelled 10 xs)) None)) ≡ true → c ≡ true
     go true true true d z = refl
     go true true false d z = never z refl
     go true false c d z = never z refl
@@ -226,15 +224,15 @@ module _ (u : List ℕ) {t : Bool} (s : t ≡ starts_with scheme u) (y : not t �
       where
         by : Case (has 47 (rest_of u)) → is_uri u ≡ false
         by (holds b) = let l = (same_front b).0 in absurd (omega arith)
-        by (isnt b) = second_false (starts_with scheme (before 63 u)) (has 47 (rest_of u)) (is_host (before 47 (rest_of u)) && (is_port (before 47 (rest_of u)) && is_value (stream_named u))) b
+        by (isnt b) = second_false (starts_with scheme (before 63 u)) (has 47 (rest_of u)) (is_host (before 47 (rest_of u)) && (is_port (before 47 (rest_of u)) && is_some (stream_named u))) b
 
     pub no_host : None ≡ host_end (front k u) → is_uri u ≡ false
     unfolding is_uri
     no_host e = by (case (has 47 (rest_of u)))
       where
         by : Case (has 47 (rest_of u)) → is_uri u ≡ false
-        by (holds b) = third_false (starts_with scheme (before 63 u)) (has 47 (rest_of u)) (is_host (before 47 (rest_of u))) (is_port (before 47 (rest_of u))) (is_value (stream_named u)) (ap (λ x. is_host x && is_port x) (same_front b).1 ∙ host_none (front k u) e)
-        by (isnt b) = second_false (starts_with scheme (before 63 u)) (has 47 (rest_of u)) (is_host (before 47 (rest_of u)) && (is_port (before 47 (rest_of u)) && is_value (stream_named u))) b
+        by (holds b) = third_false (starts_with scheme (before 63 u)) (has 47 (rest_of u)) (is_host (before 47 (rest_of u))) (is_port (before 47 (rest_of u))) (is_some (stream_named u)) (ap (λ x. is_host x && is_port x) (same_front b).1 ∙ host_none (front k u) e)
+        by (isnt b) = second_false (starts_with scheme (before 63 u)) (has 47 (rest_of u)) (is_host (before 47 (rest_of u)) && (is_port (before 47 (rest_of u)) && is_some (stream_named u))) b
 
     module _ {h : ℕ} (e : Some h ≡ host_end (front k u)) where
       -- there is a host: no question mark stands before the path, so the first one there ends it
@@ -305,20 +303,20 @@ module _ (u : List ℕ) {t : Bool} (s : t ≡ starts_with scheme u) (y : not t �
             let d : Holds (rest u) (host_of u) 0 h = rw (zero-add h) at (holds_inside 0 k (rest u) refl (omega arith) f.within c) in
             holds_inside 7 (length u) u refl scheme_long (omega arith) d
 
-        module _ {v : Read} (p : v ≡ stream_of_path (part 0 m (path k u))) where
+        module _ {v : Option ℕ} (p : v ≡ stream_of_path (part 0 m (path k u))) where
           stream_named_law : v ≡ stream_named u
           stream_named_law = p ∙ ap stream_of_path path_is
 
-          by_stream : is_uri u ≡ is_value v
+          by_stream : is_uri u ≡ is_some v
           unfolding is_uri
           by_stream =
               let b = host_is (front k u) e in
               let q : 7 ≤ question u = omega (arith, marked) in
-              all_true (starts_with scheme (before 63 u)) (has 47 (rest_of u)) (is_host (before 47 (rest_of u))) (is_port (before 47 (rest_of u))) (is_value (stream_named u)) (scheme_body u q ∙ sym s ∙ not-false t y) has_slash (ap is_host (same_front has_slash).1 ∙ b.0) (ap is_port (same_front has_slash).1 ∙ b.1)
-              ∙ ap is_value (sym stream_named_law)
+              all_true (starts_with scheme (before 63 u)) (has 47 (rest_of u)) (is_host (before 47 (rest_of u))) (is_port (before 47 (rest_of u))) (is_some (stream_named u)) (scheme_body u q ∙ sym s ∙ not-false t y) has_slash (ap is_host (same_front has_slash).1 ∙ b.0) (ap is_port (same_front has_slash).1 ∙ b.1)
+              ∙ ap is_some (sym stream_named_law)
 
-          pub no_stream_law : v ≡ Nothing → is_uri u ≡ false
-          no_stream_law z = by_stream ∙ ap is_value z
+          pub no_stream_law : v ≡ None → is_uri u ≡ false
+          no_stream_law z = by_stream ∙ ap is_some z
 
           asked_is : ltb m (length (path k u)) ≡ has_query u
           asked_is =
@@ -341,11 +339,11 @@ module _ (u : List ℕ) {t : Bool} (s : t ≡ starts_with scheme u) (y : not t �
           query_there true b = query_held (sym b)
           query_there false b = tt
 
-          pub uri_is : {j : ℕ} {r : Option ℕ} → v ≡ Value j → r ≡ then_some (ltb m (length (path k u))) (7 + (k + 1) + m + 1)
+          pub uri_is : {j : ℕ} {r : Option ℕ} → v ≡ Some j → r ≡ then_some (ltb m (length (path k u))) (7 + (k + 1) + m + 1)
               → UriIs u (record { query = r; stream = j; host = record { start = 7; end = 7 + h } })
           uri_is {j} z d =
               record {
-                form = by_stream ∙ ap is_value z;
+                form = by_stream ∙ ap is_some z;
                 stream = sym z ∙ stream_named_law;
                 host = host_uri;
                 starts = refl;

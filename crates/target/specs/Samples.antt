@@ -1,10 +1,9 @@
 -- Samples of what the definitions say, by computation. Assumes nothing.
 use Prim.Native.String.{String}
-use Rattle.std.specs.Prelude.{◌≡◌, refl, Bool, true, false, not, [], ◌∷◌}
+use Rattle.std.specs.Prelude.{◌≡◌, refl, Bool, true, false, not, [], ◌∷◌, Some}
 use Rattle.scan.specs.Text.{text}
 use Rattle.scan.specs.Lists.{all}
 use Rattle.digits.specs.Reading.{read_number}
-use Rattle.digits.specs.declared.Read.TheVariants.{Value}
 use Rattle.target.specs.Line.{is_three, line_part}
 use Rattle.target.specs.Uri.{has_query, query_of, stream_of_path, stream_named, host_of, is_uri}
 
@@ -53,11 +52,11 @@ others : all (λ s. not (is_uri_text s))
 unfolding is_uri stream_of_path read_number
 others = refl
 
-stream : stream_named (text "rtsp://10.0.0.5:554/stream=7?fe=1") ≡ Value 7
+stream : stream_named (text "rtsp://10.0.0.5:554/stream=7?fe=1") ≡ Some 7
 unfolding stream_of_path read_number
 stream = refl
 
-no_stream_law : stream_named (text "rtsp://10.0.0.5/?freq=1") ≡ Value 0
+no_stream_law : stream_named (text "rtsp://10.0.0.5/?freq=1") ≡ Some 0
 unfolding stream_of_path
 no_stream_law = refl
 

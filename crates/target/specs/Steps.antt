@@ -1,15 +1,14 @@
 -- What the functions of this crate promise each other and the crates above: where in a line and a URI something stands. No call of the box
 -- reaches it. Assumes nothing.
-use Rattle.std.specs.Prelude.{ℕ, ◌+◌, Bool, ◌&&◌, true, List, ◌≡◌, length, Option, IfSome}
+use Rattle.std.specs.Prelude.{ℕ, ◌+◌, Bool, ◌&&◌, true, List, ◌≡◌, length, Option, IfSome, Some, is_some}
 use Rattle.std.specs.Bool.{then_some}
-use Rattle.digits.specs.Reading.{read_number, at_least, is_value}
+use Rattle.digits.specs.Reading.{read_number, at_least}
 use Rattle.digits.specs.declared.Zeros.TheVariants.{Allowed}
 use Rattle.target.specs.Uri.{is_port, has_query, host_of, is_uri, query_of, stream_named}
 use Rattle.target.specs.declared.Parts.{Parts}
 use Rattle.target.specs.declared.Uri.{Uri}
 use Rattle.scan.specs.Found.{Holds}
 use Rattle.target.specs.Line.{is_three, line_part}
-use Rattle.digits.specs.declared.Read.TheVariants.{Value}
 use Rattle.scan.specs.Lists.{first, are_name_bytes}
 use Rattle.scan.specs.Text.{is, before}
 
@@ -29,7 +28,7 @@ is_host a = are_name_bytes (before 58 a)
 
 -- "port 1 to 65535 in 1 to 5 digits", without its colon
 abbrev pub is_port_number : List ℕ → Bool
-is_port_number p = is_value (at_least 1 (read_number Allowed 5 65535 p))
+is_port_number p = is_some (at_least 1 (read_number Allowed 5 65535 p))
 
 -- where the host ends in a host with an optional port; none if the text is something else
 abbrev pub host_end : List ℕ → Option ℕ
@@ -49,7 +48,7 @@ query_place u = then_some (has_query u) (question u + 1)
 -- the stream that a URI names (0 for none), where its host stands, and where its query does
 pub record UriIs (u : List ℕ) (r : Uri) : Type 0 where
   pub form : is_uri u ≡ true
-  pub stream : Value r.stream ≡ stream_named u
+  pub stream : Some r.stream ≡ stream_named u
   pub host : Holds u (host_of u) r.host.start r.host.end
   pub starts : r.host.start ≡ 7
   pub place : r.query ≡ query_place u

@@ -8,7 +8,7 @@ ghost use Rattle.target.specs.Line.{is_three};
 ghost use Rattle.target.specs.Steps.{PartsAre, is_port_number, host_end, UriIs};
 ghost use Rattle.target.specs.Uri.{starts_with, stream_of_path, is_uri};
 
-use digits::{Read, Zeros};
+use digits::Zeros;
 use scan::{Case, Class, Span};
 
 // The places of the two spaces between the three parts of a request line.
@@ -66,7 +66,7 @@ pub fn starts_with(t: &[u8], s: &[u8]) -> bool
 fn is_port(s: &[u8]) -> bool
     ensures { result ≡ is_port_number s.now }
 {
-    digits::is_value(digits::at_least(1, digits::number(s, Zeros::Allowed, 5, 65535)))
+    digits::at_least(1, digits::number(s, Zeros::Allowed, 5, 65535)).is_some()
 }
 
 // Where the host ends in a host with an optional port.
@@ -88,14 +88,14 @@ fn host_end(a: &[u8]) -> Option<usize>
 }
 
 // The stream that a path names, 0 where the path is empty.
-fn stream_in(path: &[u8]) -> Read
+fn stream_in(path: &[u8]) -> Option<u32>
     ensures { result ≡ stream_of_path path.now }
 {
     if path.len() == 0 {
-        return Read::Value(0);
+        return Some(0);
     }
     if !starts_with(b"stream=", path) {
-        return Read::Nothing;
+        return None;
     }
     digits::at_least(1, digits::number(&path[7..], Zeros::Refused, 5, 65535))
 }
@@ -116,9 +116,7 @@ pub fn read_uri(s: &[u8]) -> Option<Uri>
     let next = slash + 1;
     let path = &rest[next..];
     let mark = scan::first_in(path, Class::Is(b'?'));
-    let Read::Value(stream) = stream_in(&path[0..mark]) else {
-        return None;
-    };
+    let stream = stream_in(&path[0..mark])?;
     Some(Uri {
         query: (mark < path.len()).then_some(7 + next + mark + 1),
         stream,

@@ -1,41 +1,67 @@
--- The code of one of some words, by its place among them. Assumes nothing.
-use mathlib.Core.Path.{◌≡◌, ap, refl}
-use mathlib.Core.Bool.{Bool, true, cond, false}
-use mathlib.Core.List.{List, []}
-use Prim.Native.Nat.{ℕ, ◌+◌}
+-- The place of a text among some words, and its code. Assumes nothing.
+use mathlib.Core.Path.{◌≡◌, ap, refl, sym, ◌∙◌}
+use mathlib.Core.Bool.{Bool, true, cond, false, not}
+use mathlib.Core.List.{List, [], ◌∷◌, map}
+use Prim.Native.Nat.{ℕ, suc, ◌+◌, ◌≤◌}
+use native.Mathlib.Decide.{dec_lt}
+use denote.Ref.{Bor}
+use Rattle.std.specs.List.{position_or_len}
 use native.Mathlib.Omega.{arith}
 use lib.Dec.{ltb, eqb}
-use lib.ListN.{length}
-use borrow.Author.Tests.{le-ltb}
+use lib.ListN.{length, length-map}
+use borrow.Author.Tests.{lt-ltb, le-ltb}
 use Rattle.scan.specs.Lists.{first}
-use Rattle.scan.specs.Text.{are_alike, cut, place_among}
+use Rattle.scan.specs.Text.{cut, place_among}
 use Rattle.scan.specs.Found.{is_word}
 use Rattle.scan.specs.declared.Case.TheVariants.{Counts}
-use Rattle.scan.proofs.Places.{None, place_alike, place_none}
-use Rattle.digits.specs.declared.Read.{Read}
-use Rattle.digits.specs.declared.Read.TheVariants.{Value, Nothing}
+use Rattle.scan.proofs.Bools.{by_test, by_cases}
+use Rattle.scan.proofs.Loops.{first_within}
+use Rattle.std.specs.Prelude.{Option, Some, None, MatchOption, option_map, unwrap_or, option_or}
+use Rattle.tuning.specs.Found.{place_of, code_of}
 use Rattle.tuning.specs.Values.{word, value_of, frequency, are_pids}
 use Rattle.digits.specs.Reading.{read_number}
 
--- the code of a place among some words
-abbrev coded : List ℕ → ℕ → Read
-coded words k = cond (ltb k (length (cut 32 words))) (Value (k + 1)) Nothing
+-- the texts behind the references of a list
+abbrev texts : List (Bor (List ℕ)) → List (List ℕ)
+texts ws = map (λ w. w.now) ws
 
--- a text that is alike a word has the word's code
-pub word_alike : (words w s : List ℕ) {t : Bool} → t ≡ are_alike Counts w s → t ≡ true → coded words (first (is_word Counts w) (cut 32 words)) ≡ word words s
-word_alike words w s a y = ap (coded words) (place_alike Counts words w s a y)
+first_texts : (p : List ℕ → Bool) (ws : List (Bor (List ℕ))) → position_or_len (λ w. p w.now) ws ≡ first p (texts ws)
+first_texts p [] = refl
+first_texts p (w ∷ ws) = by_test (λ t. cond (not t) (1 + position_or_len (λ v. p v.now) ws) 0 ≡ cond t 0 (suc (first p (texts ws)))) (p w.now) (λ _. refl) (λ _. omega (arith, first_texts p ws))
 
-pub word_none : (words s : List ℕ) → None Counts s (cut 32 words) → Nothing ≡ word words s
-word_none words s n =
-    let e : length (cut 32 words) ≡ place_among Counts words s = place_none Counts words n in
-    rw (le-ltb (place_among Counts words s) (length (cut 32 words)) (omega arith))
+-- among the words of a text
+module _ (words : List ℕ) (ws : List (Bor (List ℕ))) (s : List ℕ) (e : texts ws ≡ cut 32 words) where
+  place_is : place_of ws s ≡ cond (ltb (place_among Counts words s) (length (cut 32 words))) (Some (place_among Counts words s)) None
+  unfolding place_of place_among
+  place_is =
+      let n : length ws ≡ length (cut 32 words) = sym (length-map ws (λ (w : Bor (List ℕ)). w.now)) ∙ ap length e in
+      rw (first_texts (is_word Counts s) ws ∙ ap (first (is_word Counts s)) e, n)
+
+  pub word_is : {r : Option ℕ} → r ≡ code_of ws s → r ≡ word words s
+  word_is q =
+      q ∙ ap (option_map (λ k. k + 1)) place_is
+      ∙ by_test (λ t. option_map (λ k. k + 1) (cond t (Some (place_among Counts words s)) None) ≡ cond t (Some (place_among Counts words s + 1)) None)
+      (ltb (place_among Counts words s) (length (cut 32 words))) (λ _. refl) (λ _. refl)
+
+  pub place_or : {r : Option ℕ} → r ≡ place_of ws s → unwrap_or r (length (cut 32 words)) ≡ place_among Counts words s
+  unfolding place_among
+  place_or q =
+      let k : ℕ = place_among Counts words s in
+      let n : ℕ = length (cut 32 words) in
+      let w : k ≤ n = first_within (is_word Counts s) (cut 32 words) in
+      ap (λ o. unwrap_or o n) (q ∙ place_is)
+      ∙ by_cases (dec_lt k n) (λ l. rw (lt-ltb k n l)) (λ l. rw (le-ltb k n (omega arith)) (omega arith))
+
+pub or_is : (a b : Option ℕ) {r : Option ℕ} → MatchOption a (r ≡ b) (λ v. r ≡ Some v) → r ≡ option_or a b
+or_is (Some v) b e = e
+or_is None b e = e
 
 -- AN EMPTY TEXT is no attribute's value
-skip : (t : Bool) {r : Read} → r ≡ Nothing → cond t Nothing r ≡ Nothing
+skip : (t : Bool) {r : Option ℕ} → r ≡ None → cond t None r ≡ None
 skip true e = refl
 skip false e = e
 
-pub value_none : (frontends a : ℕ) → value_of frontends a [] ≡ Nothing
+pub value_none : (frontends a : ℕ) → value_of frontends a [] ≡ None
 unfolding value_of read_number frequency are_pids place_among
 value_none frontends a =
     skip (eqb a 0) (skip (eqb a 1) (skip (eqb a 2) (skip (eqb a 3) (skip (eqb a 4) (skip (eqb a 5) (skip (eqb a 6) (skip (eqb a 7) (skip (eqb a 8)

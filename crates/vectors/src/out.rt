@@ -1,5 +1,4 @@
 // What the vectors write to standard output.
-use digits::Read;
 use std::io;
 
 // Bytes in brackets.
@@ -12,8 +11,8 @@ pub(crate) fn bracketed(rt: &impl Print, bytes: &[u8]) -> io::Result<()> {
 // What was read; a hyphen where nothing was.
 pub(crate) fn read(rt: &impl Print, label: &str, read: Read) -> io::Result<()> {
     match read {
-        Read::Value(v) => print!(rt; "{label}{v}"),
-        Read::Nothing => print!(rt; "{label}-"),
+        Some(v) => print!(rt; "{label}{v}"),
+        None => print!(rt; "{label}-"),
     }
 }
 

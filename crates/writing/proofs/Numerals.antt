@@ -18,7 +18,7 @@ use Rattle.writing.specs.Writing.{shown, numeral, width_in, width, decimal, hex8
 use Rattle.writing.specs.Wrote.{Wrote}
 use Rattle.digits.specs.declared.Zeros.{Zeros}
 use Rattle.digits.specs.declared.Zeros.TheVariants.{Allowed, Refused}
-use Rattle.digits.specs.declared.Read.TheVariants.{Value}
+use Rattle.std.specs.Prelude.{Some}
 use Rattle.digits.proofs.Positions.{digits_length, value_digits}
 use Rattle.digits.proofs.Spelling.{hex_limit}
 use Rattle.writing.proofs.Writes.{written_sets, sets_last}
@@ -180,11 +180,11 @@ module _ (base : ℕ) (some : 0 < base) (most : base ≤ 16) where
   pub numeral_says : (k v : ℕ) → v < base ^ k → spelled base (numeral base k v) ≡ v
   numeral_says k v h = ap (value_in base) (read_digits k v) ∙ value_digits base k v some h
 
-  pub read_numeral : (digits limit k v : ℕ) → 1 ≤ k → k ≤ digits → v < base ^ k → v ≤ limit → read_in base digits limit (numeral base k v) ≡ Value v
+  pub read_numeral : (digits limit k v : ℕ) → 1 ≤ k → k ≤ digits → v < base ^ k → v ≤ limit → read_in base digits limit (numeral base k v) ≡ Some v
   read_numeral digits limit k v p q h l =
       rw (numeral_length base k v, le-leb 1 k p, le-leb k digits q, are_digits_law k v, numeral_says k v h, le-leb v limit l)
 
-pub read_hex8_law : (v : ℕ) → v < 4294967296 → read_hex8 (hex8 v) ≡ Value v
+pub read_hex8_law : (v : ℕ) → v < 4294967296 → read_hex8 (hex8 v) ≡ Some v
 unfolding hex8
 read_hex8_law v h =
     sym (hex_limit (numeral 16 8 v) (numeral_length 16 8 v)) ∙ read_numeral 16 (omega arith) (omega arith) 8 4294967295 8 v (omega arith) (omega arith) h (omega arith)
@@ -226,7 +226,7 @@ unfolding read_number
 read_bare Allowed most limit xs n = refl
 read_bare Refused most limit xs n = rw n
 
-pub read_decimal : (zeros : Zeros) (m limit v : ℕ) → v ≤ limit → limit < 10 ^ suc m → suc m ≤ 20 → read_number zeros (suc m) limit (decimal v) ≡ Value v
+pub read_decimal : (zeros : Zeros) (m limit v : ℕ) → v ≤ limit → limit < 10 ^ suc m → suc m ≤ 20 → read_number zeros (suc m) limit (decimal v) ≡ Some v
 unfolding decimal width
 read_decimal zeros m limit v h l r =
     let long : 10 ^ suc m ≤ 10 ^ 20 = pow-le-pow_right {n = 10} (omega arith) r in

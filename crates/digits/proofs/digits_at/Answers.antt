@@ -1,15 +1,11 @@
-use borrow.Author.Rules.{rules}
-use Rattle.digits.proofs.Standing.{stands_unordered, stands_outside, stands_here, stands_nowhere}
+use Rattle.digits.proofs.Standing.{stands_outside, stands_here, stands_nowhere}
 use Rattle.digits.proofs.digits_at.Goals as goal
 
-pub returns-then-end-start : goal.returns-then-end-start
-returns-then-end-start c = search (stands_unordered, rules)
+pub returns-in_default : goal.returns-in_default
+returns-in_default c = stands_outside _ _ _ _ _ c.in_default.ensures.lookup.0
 
-pub returns-then-s-end : goal.returns-then-s-end
-returns-then-s-end c = search (stands_outside, rules)
+pub returns-then-is_some : goal.returns-then-is_some
+returns-then-is_some c = stands_here _ _ _ _ _ c.in-Some.ensures.lookup.0 c.number_in.ensures c.is_some.ensures c.if-is_some.true
 
-pub returns-then-is_value : goal.returns-then-is_value
-returns-then-is_value c = search (stands_here, rules)
-
-pub returns-else-is_value : goal.returns-else-is_value
-returns-else-is_value c = search (stands_nowhere, rules)
+pub returns-else-is_some : goal.returns-else-is_some
+returns-else-is_some c = stands_nowhere _ _ _ _ _ c.in-Some.ensures.lookup.0 c.number_in.ensures c.is_some.ensures c.if-is_some.false

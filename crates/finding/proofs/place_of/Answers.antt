@@ -1,5 +1,5 @@
 use Rattle.std.proofs.Common.{rules, length, ◌≡◌, ◌∙◌, ap}
-use Rattle.std.specs.Option.{unwrap_or}
+use Rattle.std.specs.Prelude.{unwrap_or}
 use Rattle.std.specs.List.{position}
 use Rattle.std.proofs.lemmas.Iterator.{YieldsList-from_slice}
 use Rattle.std.proofs.lemmas.Iterator.Search.{position_from_yields_List}

@@ -5,12 +5,12 @@ use Rattle.target.proofs.Uris.{stream_none, stream_not, stream_is}
 use Rattle.target.proofs.stream_in.Goals as goal
 use Rattle.std.proofs.Common.{not}
 
-pub returns-then-path-eq0 : goal.returns-then-path-eq0
-returns-then-path-eq0 c = search (stream_none, rules)
+pub returns-then-is_empty : goal.returns-then-is_empty
+returns-then-is_empty c = search (stream_none, rules)
 
 pub returns-then-not-starts_with : goal.returns-then-not-starts_with
 returns-then-not-starts_with c = search (stream_not, rules)
 
 pub returns : goal.returns
 returns c = let p = c.args.path in
-    stream_is p.now c.if-path-eq0.false c.starts_with.ensures (ap not c.if-not-starts_with.false) (c.at_least.ensures ∙ ap (at_least 1) c.number.ensures)
+    stream_is p.now (search rules) c.starts_with.ensures (ap not c.if-not-starts_with.false) (c.at_least.ensures ∙ ap (at_least 1) c.number.ensures)

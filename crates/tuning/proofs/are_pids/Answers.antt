@@ -1,15 +1,19 @@
-use borrow.Author.Rules.{rules}
+use mathlib.Core.Path.{ap, ◌∙◌}
+use Rattle.std.proofs.Common.{rules, tests}
+use Rattle.std.proofs.lemmas.Iterator.Search.{all_from_yields_List}
+use Rattle.std.proofs.lemmas.Iterator.Splits.{YieldsList-from_slice_split}
+use Rattle.std.specs.Prelude.{eqb}
+use Rattle.std.specs.List.{slice_split}
+use Rattle.scan.specs.Lists.{all}
 use Rattle.tuning.specs.Values.{are_pids}
-use Rattle.tuning.proofs.Pieces.{each_more, each_not, each_end}
+use Rattle.tuning.specs.Found.{is_pid}
+use Rattle.tuning.proofs.Pieces.{split_cut, list_all_all}
 use Rattle.tuning.proofs.are_pids.Goals as goal
-
-pub loop-p-preserved : goal.loop-p-preserved
-loop-p-preserved c = each_more c.loop-p.invariant (search rules) c.first_from-e.ensures c.is_pid.ensures c.if-is_pid.true
-
-pub returns-else-is_pid : goal.returns-else-is_pid
-unfolding are_pids
-returns-else-is_pid c = each_not c.loop-p.invariant (search rules) c.first_from-e.ensures c.is_pid.ensures c.if-is_pid.false
 
 pub returns : goal.returns
 unfolding are_pids
-returns c = each_end c.loop-p.invariant (search rules)
+returns c =
+    all_from_yields_List is_pid _ _ c.all.result c.all.ensures.ran
+    (YieldsList-from_slice_split _ (λ b. eqb b 44) c.args.s.now c.split.ensures.rest c.split.ensures.done c.split.ensures.closure (λ x r q k. search (rules, tests)))
+    (λ x r q k. search (rules, tests))
+    ∙ list_all_all is_pid (slice_split (λ b. eqb b 44) c.args.s.now) ∙ ap (all is_pid) (split_cut 44 c.args.s.now)

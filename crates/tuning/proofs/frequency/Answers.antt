@@ -4,26 +4,21 @@ use Rattle.tuning.specs.Found.{hundredths}
 use Rattle.tuning.proofs.Frequencies.{megahertz_small, hundredths_small, frequency_whole, frequency_half, frequency_none, frequency_by}
 use Rattle.tuning.proofs.frequency.Goals as goal
 
-pub overflow_mul-m : goal.overflow_mul-m
-overflow_mul-m c = let s = c.args.s.now in
-    omega (arith, megahertz_small s c.megahertz-whole.ensures c.in-Value.is)
+pub overflow_mul-whole : goal.overflow_mul-whole
+overflow_mul-whole c = let s = c.args.s.now in
+    omega (arith, megahertz_small s c.megahertz.ensures c.in_ok-whole.was)
 
-pub overflow_add-m : goal.overflow_add-m
-overflow_add-m c = let s = c.args.s.now in
-    omega (
-      arith,
-      megahertz_small s c.megahertz-whole.ensures c.in-Value.is,
-      hundredths_small s c.hundredths-rest.ensures c.in-Value-rest.is,
-    )
+pub overflow_add-whole : goal.overflow_add-whole
+overflow_add-whole c = let s = c.args.s.now in
+    omega (arith, megahertz_small s c.megahertz.ensures c.in_ok-whole.was, hundredths_small s c.hundredths.ensures c.in_ok-rest.was)
 
-pub returns-in-Value-rest : goal.returns-in-Value-rest
-returns-in-Value-rest c = frequency_whole _ _ c.megahertz-whole.ensures c.hundredths-rest.ensures c.in-Value.is
-    c.in-Value-rest.is c.in_band.ensures
+pub returns : goal.returns
+returns c = frequency_whole _ _ c.megahertz.ensures c.hundredths.ensures c.in_ok-whole.was c.in_ok-rest.was c.in_band.ensures
     ∙ frequency_by _
 
-pub returns-in-Nothing-rest : goal.returns-in-Nothing-rest
-returns-in-Nothing-rest c = frequency_half _ _ c.megahertz-whole.ensures c.hundredths-rest.ensures c.in-Value.is c.in-Nothing-rest.is
+pub returns-in_err-rest : goal.returns-in_err-rest
+returns-in_err-rest c = c.from_residual-in_err-rest.ensures ∙ frequency_half _ _ c.megahertz.ensures c.hundredths.ensures c.in_ok-whole.was c.in_err-rest.was
     ∙ frequency_by _
 
-pub returns-in-Nothing : goal.returns-in-Nothing
-returns-in-Nothing c = frequency_none _ (hundredths c.args.s.now) c.megahertz-whole.ensures c.in-Nothing.is ∙ frequency_by _
+pub returns-in_err-whole : goal.returns-in_err-whole
+returns-in_err-whole c = c.from_residual.ensures ∙ frequency_none _ (hundredths c.args.s.now) c.megahertz.ensures c.in_err-whole.was ∙ frequency_by _

@@ -1,6 +1,9 @@
-use mathlib.Core.Path.{ap, ◌∙◌}
+use mathlib.Core.Path.{refl}
+use borrow.Author.Rules.{rules}
 use borrow.Author.Tests.{ne_eqb}
-use Rattle.tuning.specs.Values.{word_or_pids, value_of}
+use Rattle.scan.specs.Text.{text}
+use Rattle.tuning.specs.Values.{pid_list, value_of}
+use Rattle.tuning.proofs.Words.{word_is, or_is}
 use Rattle.tuning.proofs.value_of.Goals as goal
 
 pub returns-in-0 : goal.returns-in-0
@@ -17,23 +20,23 @@ returns-in-2 c = rw c.in-2.is c.frequency.ensures
 
 pub returns-in-3 : goal.returns-in-3
 unfolding value_of
-returns-in-3 c = rw c.in-3.is c.pol_word.ensures
+returns-in-3 c = rw c.in-3.is (word_is (text "h v l r") _ _ refl c.word.ensures)
 
 pub returns-in-4 : goal.returns-in-4
 unfolding value_of
-returns-in-4 c = rw c.in-4.is c.msys_word.ensures
+returns-in-4 c = rw c.in-4.is (word_is (text "dvbs dvbs2") _ _ refl c.word-in-4.ensures)
 
 pub returns-in-5 : goal.returns-in-5
 unfolding value_of
-returns-in-5 c = rw c.in-5.is c.mtype_word.ensures
+returns-in-5 c = rw c.in-5.is (word_is (text "qpsk 8psk") _ _ refl c.word-in-5.ensures)
 
 pub returns-in-6 : goal.returns-in-6
 unfolding value_of
-returns-in-6 c = rw c.in-6.is c.plts_word.ensures
+returns-in-6 c = rw c.in-6.is (word_is (text "on off") _ _ refl c.word-in-6.ensures)
 
 pub returns-in-7 : goal.returns-in-7
 unfolding value_of
-returns-in-7 c = rw c.in-7.is c.ro_word.ensures
+returns-in-7 c = rw c.in-7.is (word_is (text "0.35 0.25 0.20") _ _ refl c.word-in-7.ensures)
 
 pub returns-in-8 : goal.returns-in-8
 unfolding value_of
@@ -41,12 +44,11 @@ returns-in-8 c = rw c.in-8.is c.plain-in-8.ensures
 
 pub returns-in-9 : goal.returns-in-9
 unfolding value_of
-returns-in-9 c = rw c.in-9.is c.fec_word.ensures
+returns-in-9 c = rw c.in-9.is (word_is (text "12 23 34 56 78 89 35 45 910") _ _ refl c.word-in-9.ensures)
 
 pub returns-in-10 : goal.returns-in-10
 unfolding value_of
-returns-in-10 c = let s = c.args.s.now in
-    rw c.in-10.is (c.word_or_pids.ensures ∙ ap (λ w. word_or_pids w s) c.pids_word.ensures)
+returns-in-10 c = rw (c.in-10.is, ← word_is (text "all none") _ _ refl c.word-in-10.ensures) (or_is c.word-in-10.result (pid_list c.args.s.now) (search rules))
 
 pub returns-in-11 : goal.returns-in-11
 unfolding value_of

@@ -22,5 +22,5 @@ pub slice_bounds-value_of-start : goal.slice_bounds-value_of-start
 slice_bounds-value_of-start c = omega (arith, value_inside c.args.q.now c.loop-p.p _ (omega arith) c.in_ok-part.ensures)
 
 pub loop-p-preserved : goal.loop-p-preserved
-loop-p-preserved c = rw (c.code_of.ensures, c.is_value-within.ensures)
+loop-p-preserved c = rw (c.unwrap_or.ensures, c.is_some-within.ensures)
     (asking_more c.loop-p.invariant (search rules) c.first_from-e.ensures c.in_ok-part.ensures c.if-spans-a-ne0.false c.value_of-read.ensures)

@@ -3,4 +3,4 @@ use Rattle.stream.proofs.Edits.{pid_small}
 use Rattle.stream.proofs.pids.remove.Goals as goal
 
 pub overflow_cast-pid : goal.overflow_cast-pid
-overflow_cast-pid c = record { fits = omega (arith, pid_small _ c.number-read.ensures c.in-Value.is) }
+overflow_cast-pid c = record { fits = omega (arith, pid_small _ c.number.ensures c.in-Some.is) }
