@@ -9,7 +9,7 @@ pub(crate) fn bracketed(rt: &impl Print, bytes: &[u8]) -> io::Result<()> {
 }
 
 // What was read; a hyphen where nothing was.
-pub(crate) fn read(rt: &impl Print, label: &str, read: Read) -> io::Result<()> {
+pub(crate) fn read(rt: &impl Print, label: &str, read: Option<u32>) -> io::Result<()> {
     match read {
         Some(v) => print!(rt; "{label}{v}"),
         None => print!(rt; "{label}-"),
