@@ -91,7 +91,7 @@ fn host_end(a: &[u8]) -> Option<usize>
 fn stream_in(path: &[u8]) -> Option<u32>
     ensures { result ≡ stream_of_path path.now }
 {
-    if path.len() == 0 {
+    if path.is_empty() {
         return Some(0);
     }
     if !starts_with(b"stream=", path) {

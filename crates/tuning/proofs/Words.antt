@@ -16,7 +16,8 @@ use Rattle.scan.specs.Found.{is_word}
 use Rattle.scan.specs.declared.Case.TheVariants.{Counts}
 use Rattle.scan.proofs.Bools.{by_test, by_cases}
 use Rattle.scan.proofs.Loops.{first_within}
-use Rattle.std.specs.Prelude.{Option, Some, None, MatchOption, option_map, unwrap_or, option_or}
+use Rattle.std.specs.Prelude.{Option, Some, None, MatchOption, option_map, unwrap_or}
+use Rattle.std.specs.Option.{option_or}
 use Rattle.tuning.specs.Found.{place_of, code_of}
 use Rattle.tuning.specs.Values.{word, value_of, frequency, are_pids}
 use Rattle.digits.specs.Reading.{read_number}

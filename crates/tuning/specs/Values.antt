@@ -1,5 +1,6 @@
 -- Document 01's table of attributes, and what a stream keeps of a value's text: a code that is never 0. Assumes nothing.
-use Rattle.std.specs.Prelude.{ℕ, ◌+◌, Bool, cond, not, ◌||◌, ◌&&◌, List, ltb, eqb, length, take, Option, Some, None, is_some, option_or}
+use Rattle.std.specs.Prelude.{ℕ, ◌+◌, Bool, cond, not, ◌||◌, ◌&&◌, List, ltb, eqb, length, take, Option, Some, None, is_some}
+use Rattle.std.specs.Option.{option_or}
 use Rattle.scan.specs.Text.{text, ◌&◌, cut, before, after, has, place_among}
 use Rattle.scan.specs.Lists.{all, ◌gives◌or◌, is_between}
 use Rattle.scan.specs.declared.Case.TheVariants.{Counts}

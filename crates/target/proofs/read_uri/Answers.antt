@@ -14,9 +14,10 @@ pub returns-in_err-host : goal.returns-in_err-host
 returns-in_err-host c = rw c.from_residual.ensures
     (no_host _ c.starts_with.ensures (ap not c.if-not-starts_with.false) c.first_in-slash.ensures c.in_err-host.ensures)
 
-pub returns-in_default : goal.returns-in_default
-returns-in_default c = no_stream_law _ c.starts_with.ensures (ap not c.if-not-starts_with.false) c.first_in-slash.ensures c.in_ok-host.ensures (search rules) c.first_in-mark.ensures
-    c.stream_in.ensures c.in_default.is
+pub returns-in_err-stream : goal.returns-in_err-stream
+returns-in_err-stream c = rw c.from_residual-in_err-stream.ensures
+    (no_stream_law _ c.starts_with.ensures (ap not c.if-not-starts_with.false) c.first_in-slash.ensures c.in_ok-host.ensures (search rules) c.first_in-mark.ensures
+      c.stream_in.ensures c.in_err-stream.was)
 
 pub overflow_add-result : goal.overflow_add-result
 overflow_add-result c = omega (
@@ -26,4 +27,4 @@ overflow_add-result c = omega (
 
 pub returns : goal.returns
 returns c = uri_is _ c.starts_with.ensures (ap not c.if-not-starts_with.false) c.first_in-slash.ensures c.in_ok-host.ensures (search rules) c.first_in-mark.ensures
-    c.stream_in.ensures c.in-Value.is c.then_some.ensures
+    c.stream_in.ensures c.in_ok-stream.was c.then_some.ensures
