@@ -3,42 +3,43 @@ use mathlib.Core.Path.{◌≡◌, refl, ap, ◌∙◌, sym}
 use mathlib.Core.Bool.{Bool, true, false, ◌&&◌, and-true, and-false}
 use mathlib.Core.List.{List, [], ◌∷◌}
 use Prim.Native.Nat.{ℕ, zero, suc, ◌+◌, ◌-◌, ◌≤◌, ◌<◌}
-use native.Mathlib.Nat.{sub-zero}
 use native.Mathlib.Omega.{arith}
 use lib.Dec.{leb}
 use borrow.Author.Tests.{le-leb, lt-leb, leb-true, leb-false}
 use lib.ListN.{length, get_or, take, drop}
+use lib.Seq.{drop-drop}
+use Rattle.scan.proofs.Parts.{part_rest}
 use Rattle.scan.proofs.Bools.{and_and, Case, is, isnt, case}
 use Rattle.scan.specs.Lists.{all, part}
 use Rattle.scan.proofs.Loops.{turn, end}
 use Rattle.stream.specs.Values.{is_zero}
 use Rattle.stream.specs.Pids.{is_padded}
 
--- z says whether the places looked at so far, from `from` up to i, are zeros
-pub record Zeros (l : List ℕ) (from i : ℕ) (z : Bool) : Type 0 where
-  pub same : z && all is_zero (drop i l) ≡ all is_zero (drop from l)
+-- z says whether the places looked at so far, up to i, are zeros
+pub record Zeros (l : List ℕ) (i : ℕ) (z : Bool) : Type 0 where
+  pub same : z && all is_zero (drop i l) ≡ all is_zero l
 
-pub zeros_start : (l : List ℕ) (from : ℕ) → Zeros l from from true
-zeros_start l from = record { same = refl }
+pub zeros_start : (l : List ℕ) → Zeros l 0 true
+zeros_start l = record { same = refl }
 
-pub zeros_more : {l : List ℕ} {from i : ℕ} {z : Bool} → Zeros l from i z → i < length l → Zeros l from (i + 1) (z && is_zero (get_or l i 0))
-zeros_more {l} {from} {i} {z} s h =
+pub zeros_more : {l : List ℕ} {i : ℕ} {z : Bool} → Zeros l i z → i < length l → Zeros l (i + 1) (z && is_zero (get_or l i 0))
+zeros_more {l} {i} {z} s h =
     record { same = sym (and_and z (is_zero (get_or l i 0)) (all is_zero (drop (i + 1) l))) ∙ ap (λ t. z && t) (sym (turn (all is_zero) l i 0 h)) ∙ s.same }
 
-pub zeros_end : {l : List ℕ} {from i : ℕ} {z : Bool} → Zeros l from i z → length l ≤ i → z ≡ all is_zero (drop from l)
-zeros_end {l} {from} {i} {z} s h = sym (ap (λ t. z && t) (end (all is_zero) l i h) ∙ and-true z) ∙ s.same
+pub zeros_end : {l : List ℕ} {i : ℕ} {z : Bool} → Zeros l i z → length l ≤ i → z ≡ all is_zero l
+zeros_end {l} {i} {z} s h = sym (ap (λ t. z && t) (end (all is_zero) l i h) ∙ and-true z) ∙ s.same
 
 -- zeros up to a place, and from there on
-pub zeros_split : (n from : ℕ) (l : List ℕ) → from ≤ n → all is_zero (drop from (part 0 n l)) && all is_zero (drop n l) ≡ all is_zero (drop from l)
-zeros_split n from l h = rw sub-zero (by n from l h)
-  where
-    by : (n from : ℕ) (l : List ℕ) → from ≤ n → all is_zero (drop from (take n l)) && all is_zero (drop n l) ≡ all is_zero (drop from l)
-    by zero zero l h = refl
-    by zero (suc from) l h = absurd (omega arith)
-    by (suc n) zero [] h = refl
-    by (suc n) (suc from) [] h = refl
-    by (suc n) zero (p ∷ l) h = sym (and_and (is_zero p) _ _) ∙ ap (λ t. is_zero p && t) (by n zero l (omega arith))
-    by (suc n) (suc from) (p ∷ l) h = by n from l (omega arith)
+zeros_both : (k : ℕ) (l : List ℕ) → all is_zero (take k l) && all is_zero (drop k l) ≡ all is_zero l
+zeros_both zero l = refl
+zeros_both (suc k) [] = refl
+zeros_both (suc k) (p ∷ l) = sym (and_and (is_zero p) _ _) ∙ ap (λ t. is_zero p && t) (zeros_both k l)
+
+pub zeros_split : (n from : ℕ) (l : List ℕ) → from ≤ n → n ≤ length l → all is_zero (part from n l) && all is_zero (part n (length l) l) ≡ all is_zero (drop from l)
+zeros_split n from l h k =
+    let e : from + (n - from) ≡ n = omega arith in
+    ap (λ t. all is_zero (part from n l) && all is_zero t) (part_rest n (length l) l (omega arith) ∙ sym (drop-drop (n - from) from l ∙ rw e))
+    ∙ zeros_both (n - from) (drop from l)
 
 -- the PIDs before place i ascend, and what follows is to be no lower than `least`; that no PID is above 8191 is `least` at the end
 pub record Ascending (l : List ℕ) (count least i : ℕ) : Type 0 where

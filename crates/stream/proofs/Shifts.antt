@@ -1,13 +1,15 @@
 -- An array whose first PIDs are moved by a place, one after the other, to make room for one or to close the gap of one; and one whose
 -- rest is filled with zeros. In each the first i elements are already those that are wanted. Assumes nothing.
 use mathlib.Core.Path.{◌≡◌, ap, ◌∙◌, sym}
-use mathlib.Core.List.{List, [], ◌∷◌, ◌++◌}
+use mathlib.Core.List.{List, [], ◌∷◌, ◌++◌, append-nil}
 use Prim.Native.Nat.{ℕ, suc, ◌+◌, ◌-◌, ◌≤◌, ◌<◌}
 use native.Mathlib.Numerals.{add-one}
 use native.Mathlib.Omega.{arith}
-use lib.ListN.{length, get_or, take, drop, set, replicate, length-append, length-drop, length-set, length-replicate, get_or-replicate, take-append-drop}
-use lib.Seq.{length-take-le, take-suc, take-take, take_all, take_at, drop-cons, get_or-take, get_or-drop, get_or-append-add, set_at, append_snoc}
-use Rattle.stream.specs.Arrays.{laid_out, Front, Held}
+use lib.ListN.{length, get_or, take, drop, set, replicate, length-append, length-drop, length-set, drop_of_length-le, take-append-drop}
+use borrow.Rule.Slice.PartMut.{put_mid, mid_of, post_of, mid_len, Post-is}
+use lib.Seq.{length-take-le, take-suc, take-take, take_all, take_at, drop-cons, get_or-take, get_or-drop, get_or-append-add, set_at, append_snoc, paste, take-paste}
+use Rattle.scan.proofs.Parts.{drop_take}
+use Rattle.stream.specs.Arrays.{laid_out, Front}
 
 -- the first i elements of b are those of w, and the others still those of a
 pub record Filled (a w b : List ℕ) (i : ℕ) : Type 0 where
@@ -120,117 +122,37 @@ module _ {a : List ℕ} {count at p : ℕ} {b : List ℕ} {carried i : ℕ} (o :
             ∙ sym (after_start a count at l (omega arith) (p ∷ drop at (take count a)) (suc (i - at)) (i + 1) (omega arith) ∙ in_first a count at l (omega arith) at (i - at) i (omega arith) h);
       }
 
-  pub opening_end : count ≤ i → Held (with_one (take count a) at p) (set b count carried) (count + 1)
+  pub opening_end : count ≤ i → Front (with_one (take count a) at p) (set b count carried) (count + 1)
   opening_end h =
       let e : i ≡ count = omega (arith, o.order) in
       let n : length (with_one (take count a) at p) ≡ count + 1 = count_more a count at (omega (arith, o.long, o.room)) (omega (arith, o.from)) p in
       let f : Filled a (with_one (take count a) at p) (set b count carried) (count + 1) = rw e at (opened (omega arith)) in
-      record { count = omega (arith, o.room); is = λ k. filled_front f (omega arith) }
+      record { within = omega (arith, o.room); is = filled_front f (omega arith) }
 
   pub opening_kept : (j v : ℕ) → length (set b j v) ≡ length a
   opening_kept j v = length-set b j v ∙ o.kept ∙ sym o.long
 
 -- no room is left
-pub full : (a : List ℕ) (count at p : ℕ) → length a ≡ 32 → at ≤ count → count ≡ 32 → Held (with_one (take count a) at p) a 33
-full a count at p l h k =
-    let n : length (with_one (take count a) at p) ≡ count + 1 = count_more a count at (omega arith) h p in
-    record { count = omega arith; is = λ z. absurd (omega arith) }
+pub full : (a : List ℕ) (count at p : ℕ) → length a ≡ 32 → at ≤ count → count ≡ 32 → 32 < length (with_one (take count a) at p)
+full a count at p l h k = omega (arith, count_more a count at (omega arith) h p)
 
--- a gap is closed: each place takes what stood at the next
-pub record Closing (a : List ℕ) (count at : ℕ) (b : List ℕ) (i : ℕ) : Type 0 where
-  pub long : length a ≡ 32
-  pub kept : length b ≡ 32
-  pub within : count ≤ 32
-  pub from : at ≤ i
-  pub order : i < count
-  pub filled : Filled a (without (take count a) at) b i
+-- a gap is closed: what stood after it is copied one place down
+module _ (a : List ℕ) (count at : ℕ) (l : length a ≡ 32) (k : count ≤ 32) (h : at < count) where
+  rest_is : take (count - (at + 1)) (drop (at + 1) a) ≡ drop (suc at) (take count a)
+  rest_is = sym (drop_take (at + 1) count a) ∙ rw add-one
 
-pub closing_start : (a : List ℕ) (count at : ℕ) → length a ≡ 32 → count ≤ 32 → at < count → Closing a count at a at
-closing_start a count at l k h =
-    let n : length (without (take count a) at) ≡ count - 1 = count_fewer a count at (omega arith) (omega arith) h in
-    record {
-      long = l;
-      kept = l;
-      within = k;
-      from = omega arith;
-      order = h;
-      filled = filled_from a (without (take count a) at) at (omega arith) (start_same a count at (omega arith) (omega arith) (drop (suc at) (take count a)));
-    }
-
-module _ {a : List ℕ} {count at : ℕ} {b : List ℕ} {i : ℕ} (o : Closing a count at b i) where
-  left : length (without (take count a) at) ≡ count - 1
-  left = count_fewer a count at (omega (arith, o.long, o.within)) (omega (arith, o.from, o.order)) (omega (arith, o.from, o.order))
-
-  pub closing_more : i < count - 1 → Closing a count at (set b i (get_or b (i + 1) 0)) (i + 1)
-  closing_more h =
-      let k : at ≤ i = o.from in
-      let l : count ≤ length a = omega (arith, o.long, o.within) in
-      let n : length (without (take count a) at) ≡ count - 1 = left in
-      let v : get_or b (i + 1) 0 ≡ get_or (without (take count a) at) i 0 =
-      filled_later o.filled (i + 1) (omega arith)
-      ∙ sym (after_start a count at l (omega arith) (drop (suc at) (take count a)) (i - at) i (omega arith) ∙ in_first a count at l (omega arith) (suc at) (i - at) (i + 1) (omega arith) (omega arith))
-      in
-      record {
-        long = o.long;
-        kept = length-set b i (get_or b (i + 1) 0) ∙ o.kept;
-        within = o.within;
-        from = omega arith;
-        order = omega arith;
-        filled = filled_more o.filled (omega arith) (omega arith) v;
-      }
-
-  pub closing_end : count - 1 ≤ i → Front (without (take count a) at) b (count - 1)
-  closing_end h =
-      let e : i ≡ count - 1 = omega (arith, o.order) in
-      record { within = omega (arith, o.within); is = rw e at (filled_front o.filled (omega (arith, left))) }
+  pub closed : {b : List ℕ} → b ≡ paste a at (drop (at + 1) a) (count - (at + 1)) → Front (without (take count a) at) b (count - 1)
+  closed {b} e =
+      let n : at + (count - (at + 1)) ≡ count - 1 = omega arith in
+      let t : take at a ≡ take at (take count a) = sym (take-take at count a (omega arith)) in
+      let p : take (count - 1) b ≡ take at a ++ take (count - (at + 1)) (drop (at + 1) a) =
+      rw (e, ← n) (take-paste a at (drop (at + 1) a) (count - (at + 1)) (omega arith) (omega (arith, length-drop (at + 1) a))) in
+      record { within = omega arith; is = p ∙ rw (rest_is, t) }
 
 -- zeros are put after the first `count` PIDs
-pub record Clearing (a : List ℕ) (count : ℕ) (b : List ℕ) (i : ℕ) : Type 0 where
-  pub long : length a ≡ 32
-  pub kept : length b ≡ 32
-  pub from : count ≤ i
-  pub order : i ≤ 32
-  pub filled : Filled a (laid_out (take count a)) b i
-
-module _ (a : List ℕ) (count : ℕ) (l : length a ≡ 32) (h : count ≤ 32) where
-  count_kept : length (take count a) ≡ count
-  count_kept = length-take-le count a (omega arith)
-
-  count_laid : length (laid_out (take count a)) ≡ 32
-  count_laid = simp (length-append, length-replicate) (omega (arith, count_kept))
-
-  laid_after : (i : ℕ) → count ≤ i → i < 32 → get_or (laid_out (take count a)) i 0 ≡ 0
-  laid_after i k m =
-      let n : i ≡ length (take count a) + (i - count) = omega (arith, count_kept) in
-      ap (λ j. get_or (laid_out (take count a)) j 0) n ∙ get_or-append-add (take count a) (replicate (32 - length (take count a)) 0) (i - count) 0
-      ∙ get_or-replicate (32 - length (take count a)) (i - count) 0 0 (omega (arith, count_kept))
-
-  pub clearing_start : Clearing a count a count
-  clearing_start =
-      record {
-        long = l;
-        kept = l;
-        from = omega arith;
-        order = h;
-        filled =
-            filled_from a (laid_out (take count a)) count (omega (arith, count_laid)) (sym (take_at (take count a) (replicate (32 - length (take count a)) 0) count count_kept));
-      }
-
-module _ {a : List ℕ} {count : ℕ} {b : List ℕ} {i : ℕ} (o : Clearing a count b i) where
-  all_laid : length (laid_out (take count a)) ≡ 32
-  all_laid = count_laid a count o.long (omega (arith, o.from, o.order))
-
-  pub clearing_more : i < length b → Clearing a count (set b i 0) (i + 1)
-  clearing_more h =
-      let k : count ≤ i = o.from in
-      let j : i < 32 = omega (arith, o.kept) in
-      record {
-        long = o.long;
-        kept = length-set b i 0 ∙ o.kept;
-        from = omega arith;
-        order = omega arith;
-        filled = filled_more o.filled (omega (arith, o.long)) (omega (arith, all_laid)) (sym (laid_after a count o.long (omega arith) i k j));
-      }
-
-  pub clearing_end : length b ≤ i → b ≡ laid_out (take count a)
-  clearing_end h = sym (take_all i b h) ∙ filled_front o.filled (omega (arith, all_laid, o.kept))
+pub laid : (a : List ℕ) (count : ℕ) {zeros : List ℕ} → length a ≡ 32 → count ≤ 32 → zeros ≡ replicate (length (mid_of count (32 - count) a)) 0
+    → put_mid count (32 - count) a zeros ≡ laid_out (take count a)
+laid a count {zeros} l h z =
+    let m : length (mid_of count (32 - count) a) ≡ 32 - count = mid_len count 32 a (omega arith) in
+    let p : post_of count (32 - count) a ≡ [] = Post-is count 32 a h ∙ drop_of_length-le a {i = 32} (omega arith) in
+    rw (p, append-nil zeros, z, m, length-take-le count a (omega arith))

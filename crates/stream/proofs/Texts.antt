@@ -7,6 +7,7 @@ use Prim.Native.Nat.{ℕ, suc, ◌+◌, ◌≤◌, ◌<◌, max}
 use native.Mathlib.Omega.{arith}
 use lib.Dec.{eqb, ltb}
 use lib.ListN.{length, take}
+use lib.Seq.{length-take-le}
 use borrow.Author.Tests.{eq-eqb, ne_eqb}
 use Rattle.scan.specs.Lists.{part}
 use Rattle.scan.specs.Found.{FirstFrom, cut_from}
@@ -14,8 +15,8 @@ use Rattle.scan.specs.Text.{is}
 use Rattle.scan.proofs.Cuts.{cut_start, cut_turn, cut_end}
 use Rattle.std.specs.Prelude.{Option, Some, None}
 use Rattle.stream.specs.Pids.{added, removed, with_number, numbers_in, obeyed}
-use Rattle.stream.specs.Arrays.{read_pid, with_text, numbers_read, Front, Held, once}
-use Rattle.stream.proofs.Edits.{front_same, held_front}
+use Rattle.stream.specs.Arrays.{read_pid, with_text, numbers_read, Front, edit_of, once}
+use Rattle.stream.proofs.Edits.{front_same}
 
 -- the pieces before place p of the text have been obeyed, and b's first n PIDs are what they made of a's first `count`
 pub record Obeying (edit : ℕ → List ℕ → List ℕ) (text a : List ℕ) (count : ℕ) (b : List ℕ) (n p : ℕ) : Type 0 where
@@ -49,23 +50,10 @@ module _ {edit : ℕ → List ℕ → List ℕ} {text a : List ℕ} {count : ℕ
         record { long = l; small = k; inside = omega arith; same = ap (obeyed edit (numbers_read (cut_from 44 (e + 1) text))) q ∙ turned }
 
 -- the text is not given
-module _ (text a : List ℕ) (count : ℕ) {code : ℕ} (h : count ≤ 32) (none : code ≡ 0) where
-  pub removing_none : Front (with_text removed code text (take count a)) a count
-  removing_none = front_same a count (rw (eq-eqb code 0 none)) h
+pub obeying_none : (edit : ℕ → List ℕ → List ℕ) (text a : List ℕ) (count : ℕ) {code : ℕ} → count ≤ 32 → code ≡ 0 → Front (with_text edit code text (take count a)) a count
+obeying_none edit text a count {code} h none = front_same a count (rw (eq-eqb code 0 none)) h
 
-  pub adding_none : length a ≡ 32 → Held (with_text added code text (take count a)) a count
-  adding_none k = held_front k (front_same a count (rw (eq-eqb code 0 none)) h)
-
--- deletions
-module _ {text a : List ℕ} {count : ℕ} {b : List ℕ} {n p : ℕ} (o : Obeying removed text a count b n p) where
-  pub removing_more : {e : ℕ} {d : List ℕ} {m : ℕ} → p ≤ length text → FirstFrom (is 44) text p e → length d ≡ length b → Front (once removed (read_pid (part p e text)) (take n b)) d m
-      → Obeying removed text a count d m (e + 1)
-  removing_more h f l r = obeying_more o h f (l ∙ o.long) r.within r.is
-
-  pub removing_end : {code : ℕ} → (code ≡ 0 → ⊥) → length text < p → Front (with_text removed code text (take count a)) b n
-  removing_end {code} g h = front_same b n (rw (ne_eqb code 0 g) (obeying_end o h)) o.small
-
--- additions never make fewer
+-- additions never make fewer, and removals never more
 added_longer : (p : ℕ) (l : List ℕ) → length l ≤ length (added p l)
 added_longer p [] = omega arith
 added_longer p (q ∷ l) = by (ltb p q) (eqb p q) (added_longer p l)
@@ -79,17 +67,45 @@ all_longer : (ps l : List ℕ) → length l ≤ length (obeyed added ps l)
 all_longer [] l = omega arith
 all_longer (p ∷ ps) l = omega (arith, added_longer p l, all_longer ps (added p l))
 
-module _ {text a : List ℕ} {count : ℕ} {b : List ℕ} {n p : ℕ} (o : Obeying added text a count b n p) where
-  module _ {e : ℕ} {d : List ℕ} {m : ℕ} (h : p ≤ length text) (f : FirstFrom (is 44) text p e) (r : Held (once added (read_pid (part p e text)) (take n b)) d m) where
-    pub adding_more : length d ≡ length b → m ≤ 32 → Obeying added text a count d m (e + 1)
-    adding_more l k = obeying_more o h f (l ∙ o.long) k (r.is k)
+removed_shorter : (p : ℕ) (l : List ℕ) → length (removed p l) ≤ length l
+removed_shorter p [] = omega arith
+removed_shorter p (q ∷ l) = by (ltb p q) (eqb p q) (removed_shorter p l)
+  where
+    by : (s t : Bool) → length (removed p l) ≤ length l → length (cond s (q ∷ l) (cond t l (q ∷ removed p l))) ≤ suc (length l)
+    by true t h = omega arith
+    by false true h = omega arith
+    by false false h = omega arith
 
-    pub adding_over : {code : ℕ} → (code ≡ 0 → ⊥) → 32 < m → Held (with_text added code text (take count a)) d m
-    adding_over {code} g k =
-        let l : length (once added (read_pid (part p e text)) (take n b)) ≤ length (obeyed added (numbers_in text) (take count a)) =
-        rw (← turned o h f) (all_longer (numbers_read (cut_from 44 (e + 1) text)) (once added (read_pid (part p e text)) (take n b)))
-        in
-        rw (ne_eqb code 0 g) (record { count = omega (arith, r.count); is = λ z. absurd (omega arith) })
+once_shorter : (r : Option ℕ) (l : List ℕ) → length (once removed r l) ≤ length l
+once_shorter (Some p) l = removed_shorter p l
+once_shorter None l = omega arith
 
-  pub adding_end : {code : ℕ} → (code ≡ 0 → ⊥) → length text < p → Held (with_text added code text (take count a)) b n
-  adding_end {code} g h = held_front o.long (front_same b n (rw (ne_eqb code 0 g) (obeying_end o h)) o.small)
+all_shorter : (ps l : List ℕ) → length (obeyed removed ps l) ≤ length l
+all_shorter [] l = omega arith
+all_shorter (p ∷ ps) l = omega (arith, removed_shorter p l, all_shorter ps (removed p l))
+
+pub removing_fits : (code : ℕ) (text l : List ℕ) → length (with_text removed code text l) ≤ length l
+removing_fits code text l = by (eqb code 0)
+  where
+    by : (t : Bool) → length (cond t l (obeyed removed (numbers_in text) l)) ≤ length l
+    by true = omega arith
+    by false = all_shorter (numbers_in text) l
+
+-- what is too many in the middle of a text is too many at its end: removals make none too many
+over : (b : Bool) (r : Option ℕ) (ps l : List ℕ) → length l ≤ 32 → 32 < length (once (edit_of b) r l) → 32 < length (obeyed (edit_of b) ps (once (edit_of b) r l))
+over true r ps l h k = omega (arith, all_longer ps (once added r l))
+over false r ps l h k = absurd (omega (arith, once_shorter r l))
+
+module _ (b : Bool) {text a : List ℕ} {count : ℕ} {c : List ℕ} {n p : ℕ} (o : Obeying (edit_of b) text a count c n p) where
+  module _ {e : ℕ} (h : p ≤ length text) (f : FirstFrom (is 44) text p e) where
+    pub obeying_on : {d : List ℕ} {m : ℕ} → length d ≡ length c → Front (once (edit_of b) (read_pid (part p e text)) (take n c)) d m → Obeying (edit_of b) text a count d m (e + 1)
+    obeying_on l r = obeying_more o h f (l ∙ o.long) r.within r.is
+
+    pub obeying_over : {code : ℕ} → (code ≡ 0 → ⊥) → 32 < length (once (edit_of b) (read_pid (part p e text)) (take n c))
+        → 32 < length (with_text (edit_of b) code text (take count a))
+    obeying_over {code} g k =
+        let l : length (take n c) ≡ n = length-take-le n c (omega (arith, o.small, o.long)) in
+        rw (ne_eqb code 0 g) (rw (turned o h f) at (over b (read_pid (part p e text)) (numbers_read (cut_from 44 (e + 1) text)) (take n c) (omega (arith, o.small)) k))
+
+  pub obeying_done : {code : ℕ} → (code ≡ 0 → ⊥) → length text < p → Front (with_text (edit_of b) code text (take count a)) c n
+  obeying_done {code} g h = front_same c n (rw (ne_eqb code 0 g) (obeying_end o h)) o.small

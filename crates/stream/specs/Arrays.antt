@@ -1,14 +1,12 @@
 -- What the crates promise each other of a stream's values and PIDs: each attribute by its place, ascending lists, and a list at the front of an array
 -- while it is edited. No call of the box reaches it. Assumes nothing.
-use Rattle.std.specs.Prelude.{ℕ, suc, ◌-◌, ◌≤◌, ◌<◌, min, ◌≡◌, Bool, true, false, cond, ◌&&◌, ◌||◌, eqb, leb, ltb, length, take, drop, get_or, replicate, Option, Some, None}
+use Rattle.std.specs.Prelude.{ℕ, suc, ◌-◌, ◌≤◌, ◌<◌, ◌≡◌, Bool, true, false, cond, ◌&&◌, ◌||◌, eqb, leb, ltb, length, take, drop, get_or, replicate, Option, Some, None, Result, Ok, Err}
 use mathlib.Core.List.{List, [], ◌∷◌, ◌++◌, foldr}
 use Rattle.scan.specs.Lists.{is_between, all}
 use Rattle.digits.specs.Reading.{read_number}
 use Rattle.digits.specs.declared.Zeros.TheVariants.{Allowed}
 use Rattle.stream.specs.Values.{is_missing_or}
 use Rattle.stream.specs.Pids.{added, removed, with_number, numbers_in, obeyed, Choice}
-use Rattle.stream.specs.declared.pids.Place.{Place}
-use Rattle.stream.specs.declared.pids.Place.TheVariants.{At, Before}
 use Rattle.stream.specs.declared.pids.Pids.{Pids}
 
 -- the highest PID, how many a stream may have, and when those are too many
@@ -90,19 +88,24 @@ pub record Missing (p : ℕ) (l : List ℕ) (k : ℕ) : Type 0 where
   pub adding : added p l ≡ take k l ++ (p ∷ drop k l)
   pub removing : removed p l ≡ l
 
-abbrev pub Placed : ℕ → List ℕ → Place → Type 0
-Placed p l (At k) = There p l k
-Placed p l (Before k) = Missing p l k
+abbrev pub Placed : ℕ → List ℕ → Result ℕ ℕ → Type 0
+Placed p l (Ok k) = There p l k
+Placed p l (Err k) = Missing p l k
 
 -- the first n PIDs of the array a are the list l
 pub record Front (l a : List ℕ) (n : ℕ) : Type 0 where
   pub within : n ≤ most
   pub is : take n a ≡ l
 
--- the same where l fits; n is one more than fit where it does not
-pub record Held (l a : List ℕ) (n : ℕ) : Type 0 where
-  pub count : n ≡ min (length l) (suc most)
-  pub is : n ≤ most → take n a ≡ l
+-- the same where l fits, and none where it does not
+abbrev pub Held : List ℕ → List ℕ → Option ℕ → Type 0
+Held l a (Some n) = Front l a n
+Held l a None = most < length l
+
+-- what is done with each PID of a text
+abbrev pub edit_of : Bool → ℕ → List ℕ → List ℕ
+edit_of true = added
+edit_of false = removed
 
 -- what one piece of a text does to a list: a piece that is no PID does nothing
 abbrev pub once : (ℕ → List ℕ → List ℕ) → Option ℕ → List ℕ → List ℕ
@@ -117,7 +120,11 @@ with_text edit code text l = cond (eqb code 0) l (obeyed edit (numbers_in text) 
 abbrev pub laid_out : List ℕ → List ℕ
 laid_out l = l ++ replicate (most - length l) 0
 
--- a choice as the code has it while it merges: a count of 33 where there are too many
+-- a choice as the code has it while it merges, if it fits
 pub record Chosen (c : Choice) (p : Pids) : Type 0 where
-  pub all : p.all ≡ cond c.all 1 0
-  pub held : Held c.list p.list p.count
+  pub all : p.all ≡ c.all
+  pub front : Front c.list p.list p.count
+
+abbrev pub Chooses : Choice → Option Pids → Type 0
+Chooses c (Some p) = Chosen c p
+Chooses c None = most < length c.list

@@ -9,7 +9,7 @@ ghost use Rattle.stream.specs.Streams.{blank, are_zero, is_sound, merge_of};
 
 pub use attributes::are_complete;
 use attributes::{are_in_range, are_none, go_together, merged};
-use pids::{are_zero, choose, clear_from, is_padded};
+use pids::{are_zero, choose, is_padded};
 
 // Document 01's attributes that a stream keeps, as `tuning` codes them: 0 where one is missing.
 #[repr(C)]
@@ -138,23 +138,19 @@ pub fn merge(
 ) -> Result<Stream, Refusal>
     ensures { result ≡ merge_of m codes pids.now delpids.now addpids.now }
 {
-    let old = m.values;
-    let values = merged(old, codes);
+    let values = merged(m.values, codes);
     if !go_together(values) {
         return Err(Refusal::Combination);
     }
-    let chosen = choose(m, codes, pids, delpids, addpids);
+    let chosen = choose(m, codes, pids, delpids, addpids).ok_or(Refusal::TooMany)?;
     let count = chosen.count;
-    if Stream::PIDS < count {
-        return Err(Refusal::TooMany);
-    }
     let mut list = chosen.list;
-    clear_from(&mut list, count);
+    list[count..].fill(0);
     Ok(Stream {
         pids: list,
         values,
         count: count as u16,
         frontend: m.frontend,
-        all: chosen.all,
+        all: u8::from(chosen.all),
     })
 }

@@ -1,4 +1,6 @@
 use borrow.Author.Rules.{rules}
+use native.Mathlib.Omega.{arith}
+use lib.Seq.{get_or-take}
 use Rattle.stream.proofs.Arrays.{padded_long, ascending_low, ascending_more}
 use Rattle.stream.proofs.pids.is_padded.Goals as goal
 
@@ -6,7 +8,7 @@ pub returns-then-pids-count : goal.returns-then-pids-count
 returns-then-pids-count c = search (padded_long, rules)
 
 pub returns-then-p-least : goal.returns-then-p-least
-returns-then-p-least c = ascending_low c.loop-i.invariant (search rules) c.wide-p.ensures.0 c.if-p-least.true
+returns-then-p-least c = ascending_low c.loop-p.invariant (search rules) (omega (arith, get_or-take c.args.count c.args.pids.now c.loop-p.p-index 0 (search rules))) c.if-p-least.true
 
-pub loop-i-preserved : goal.loop-i-preserved
-loop-i-preserved c = ascending_more c.loop-i.invariant (search rules) c.wide-p.ensures.0 c.if-p-least.false
+pub loop-p-preserved : goal.loop-p-preserved
+loop-p-preserved c = ascending_more c.loop-p.invariant (search rules) (omega (arith, get_or-take c.args.count c.args.pids.now c.loop-p.p-index 0 (search rules))) c.if-p-least.false

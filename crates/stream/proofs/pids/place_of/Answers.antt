@@ -1,6 +1,19 @@
-use borrow.Author.Rules.{rules}
-use Rattle.stream.proofs.Places.{placing_there}
+use Rattle.std.proofs.Common.{rules, tests, ◌≤◌, ◌<◌}
+use Rattle.std.proofs.lemmas.Iterator.{IsFirst-from_position, YieldsList-from_slice}
+use Rattle.stream.proofs.Places.{found_there, found_missing, found_none}
 use Rattle.stream.proofs.pids.place_of.Goals as goal
 
-pub returns-then-p-q-2 : goal.returns-then-p-q-2
-returns-then-p-q-2 c = search (placing_there, rules)
+pub returns-in-Some : goal.returns-in-Some
+returns-in-Some c =
+    let f = IsFirst-from_position _ _ c.position.result (λ q. c.args.p ≤ q) (λ q. q < c.args.p) c.position.ensures.ran (YieldsList-from_slice c.args.list.now cc) (λ x q k. search (rules, tests)) (λ x q k. search (rules, tests)) in
+    found_there _ _ (rw c.in-Some.is at f) c.if-list-at.true
+
+pub returns-in-Some-2 : goal.returns-in-Some-2
+returns-in-Some-2 c =
+    let f = IsFirst-from_position _ _ c.position.result (λ q. c.args.p ≤ q) (λ q. q < c.args.p) c.position.ensures.ran (YieldsList-from_slice c.args.list.now cc) (λ x q k. search (rules, tests)) (λ x q k. search (rules, tests)) in
+    found_missing _ _ (rw c.in-Some.is at f) c.if-list-at.false
+
+pub returns-in-None : goal.returns-in-None
+returns-in-None c =
+    let f = IsFirst-from_position _ _ c.position.result (λ q. c.args.p ≤ q) (λ q. q < c.args.p) c.position.ensures.ran (YieldsList-from_slice c.args.list.now cc) (λ x q k. search (rules, tests)) (λ x q k. search (rules, tests)) in
+    found_none _ _ (rw c.in-None.is at f)

@@ -1,6 +1,6 @@
 use borrow.Author.Rules.{rules}
-use Rattle.stream.proofs.Shifts.{closing_more}
+use Rattle.stream.proofs.Shifts.{closed}
 use Rattle.stream.proofs.pids.take_out.Goals as goal
 
-pub loop-i-preserved : goal.loop-i-preserved
-loop-i-preserved c = search (closing_more, rules)
+pub returns : goal.returns
+returns c = closed _ _ _ (search rules) (search rules) (search rules) c.copy_within.ensures.after
