@@ -49,9 +49,15 @@ pub(crate) enum Command<'a> {
         asking: Asking<'a>,
     },
     // `tick CLOCK JOURNAL`
-    Tick { clock: u32, journal: Option<u32> },
+    Tick {
+        clock: u32,
+        journal: Option<u32>,
+    },
     // `collect LENGTH JOURNAL`
-    Collect { length: u32, journal: Option<u32> },
+    Collect {
+        length: u32,
+        journal: Option<u32>,
+    },
     // `order FRONTEND`
     Order(u32),
     // `set FIELD PLACE VALUE ENTRY`
@@ -61,7 +67,10 @@ pub(crate) enum Command<'a> {
     // `table`
     Table,
     // `journal FROM TO`
-    Journal { from: u32, to: u32 },
+    Journal {
+        from: u32,
+        to: u32,
+    },
 }
 
 impl<'a> Command<'a> {

@@ -1,7 +1,6 @@
 // A table, a call's outcome and what it wrote, in words and numbers.
-use std::fmt;
-use std::io;
 use std::net::Ipv4Addr;
+use std::{fmt, io};
 use stream::{Stream, Values};
 use table::{Refusal, SatBox, Session};
 
@@ -22,7 +21,10 @@ pub(crate) fn outcome<T: Copy>(
 // The numbers that a call may move, to the end of the line.
 pub(crate) fn state(rt: &impl Print, t: &SatBox) -> io::Result<()> {
     let open = finding::count_open(&t.sessions);
-    println!(rt; ", clock {} sequence {} held {} open {open}", t.clock, t.sequence, t.held)
+    println!(rt;
+        ", clock {} sequence {} held {} open {open}",
+        t.clock, t.sequence, t.held
+    )
 }
 
 // Bytes in hexadecimal, each after a space.
@@ -47,13 +49,19 @@ pub(crate) fn records(rt: &impl Print, bytes: &[u8]) -> io::Result<()> {
 }
 
 fn session(rt: &impl Print, place: usize, s: &Session) -> io::Result<()> {
-    print!(rt; "  place {place} session {:08X} stream {} owner {}", s.number, s.stream, s.owner)?;
+    print!(rt;
+        "  place {place} session {:08X} stream {} owner {}",
+        s.number, s.stream, s.owner
+    )?;
     print!(rt; " playing {} last {} port {}", s.playing, s.last, s.port)?;
     println!(rt; " address {}", Ipv4Addr::from_bits(s.address))
 }
 
 fn values(rt: &impl Print, v: &Values) -> io::Result<()> {
-    print!(rt; " src {} freq {} pol {} msys {} mtype {}", v.src, v.freq, v.pol, v.msys, v.mtype)?;
+    print!(rt;
+        " src {} freq {} pol {} msys {} mtype {}",
+        v.src, v.freq, v.pol, v.msys, v.mtype
+    )?;
     print!(rt; " plts {} ro {} sr {} fec {}", v.plts, v.ro, v.sr, v.fec)
 }
 
@@ -92,7 +100,10 @@ fn streams(rt: &impl Print, t: &SatBox) -> io::Result<()> {
 
 pub(crate) fn table(rt: &impl Print, t: &SatBox) -> io::Result<()> {
     let settings = t.settings;
-    print!(rt; "  frontends {} size {} reach", settings.frontends, settings.size)?;
+    print!(rt;
+        "  frontends {} size {} reach",
+        settings.frontends, settings.size
+    )?;
     for set in &settings.reach {
         print!(rt; " {set}")?;
     }

@@ -1,5 +1,5 @@
 -- Frontend orders by the ways they end. Assumes nothing.
-use Rattle.std.specs.Prelude.{Option, Some, None, Result, Ok, Err, IsErrAnd}
+use Rattle.std.specs.Prelude.{Option, Some, None, Result, Ok, Err}
 use mathlib.Core.Path.{◌≡◌, refl, sym, ◌∙◌, ap}
 use mathlib.Core.Bool.{Bool, true, false, cond, ◌||◌, and-false}
 use Prim.Native.Nat.{ℕ, suc, ◌+◌, ◌<◌}

@@ -18,6 +18,7 @@ pub fn read_full(input: &mut impl Read, buffer: &mut [u8]) -> io::Result<usize>
     ensures { ReadsAtMost result buffer.new }
 {
     let mut done = 0;
+    // No count of turns: a read may give fewer bytes than there is room for.
     while done < buffer.len() {
         let n = input.read(&mut buffer[done..])?;
         if n == 0 {

@@ -14,8 +14,14 @@ const EXAMPLE: Record = Record {
 };
 
 fn record(rt: &impl Print, r: Record) -> io::Result<()> {
-    print!(rt; "kind {} cause {} clock {} session {}", r.kind, r.cause, r.clock, r.session)?;
-    println!(rt; " stream {} frontend {} sequence {}", r.stream, r.frontend, r.sequence)
+    print!(rt;
+        "kind {} cause {} clock {} session {}",
+        r.kind, r.cause, r.clock, r.session
+    )?;
+    println!(rt;
+        " stream {} frontend {} sequence {}",
+        r.stream, r.frontend, r.sequence
+    )
 }
 
 fn refused(rt: &impl Print, why: Refusal) -> io::Result<()> {
@@ -59,7 +65,14 @@ fn flaws(rt: &impl Print) -> io::Result<()> {
 fn kinds(rt: &impl Print) -> io::Result<()> {
     for kind in 0..5 {
         for cause in 0..5 {
-            write(rt, Record { kind, cause, ..EXAMPLE })?;
+            write(
+                rt,
+                Record {
+                    kind,
+                    cause,
+                    ..EXAMPLE
+                },
+            )?;
         }
     }
     Ok(())
@@ -87,12 +100,27 @@ fn limits(rt: &impl Print) -> io::Result<()> {
         sequence: u16::MAX,
     };
     for r in [
-        Record { session: 0, ..closing },
+        Record {
+            session: 0,
+            ..closing
+        },
         largest,
-        Record { stream: 0, ..closing },
-        Record { stream: 9, ..closing },
-        Record { frontend: 0, ..closing },
-        Record { frontend: 9, ..closing },
+        Record {
+            stream: 0,
+            ..closing
+        },
+        Record {
+            stream: 9,
+            ..closing
+        },
+        Record {
+            frontend: 0,
+            ..closing
+        },
+        Record {
+            frontend: 9,
+            ..closing
+        },
         mixed,
     ] {
         write(rt, r)?;
