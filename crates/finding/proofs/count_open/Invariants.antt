@@ -5,4 +5,3 @@ use Rattle.finding.proofs.count_open.Given as goal
 
 abbrev pub invariant-loop-s : goal.invariant-loop-s
 invariant-loop-s l = (length l.sessions ≡ 32) × Counting is_open l.sessions l.s-index l.n
-

@@ -17,7 +17,7 @@ returns-in_err-host c = rw c.from_residual.ensures
 pub returns-in_err-stream : goal.returns-in_err-stream
 returns-in_err-stream c = rw c.from_residual-in_err-stream.ensures
     (no_stream_law _ c.starts_with.ensures (ap not c.if-not-starts_with.false) c.first_in-slash.ensures c.in_ok-host.ensures (search rules) c.first_in-mark.ensures
-      c.stream_in.ensures c.in_err-stream.was)
+    c.stream_in.ensures c.in_err-stream.was)
 
 pub overflow_add-result : goal.overflow_add-result
 overflow_add-result c = omega (
