@@ -6,3 +6,4 @@ pub mod Trims
 pub mod Cuts
 pub mod Places
 pub mod Options
+pub mod Chains

@@ -88,7 +88,7 @@ module _ {A : Type 0} (p : A → Bool) where
 
 -- a block of which every element passes a test that nothing sought passes holds nothing sought: that is past it
 module _ {A : Type 0} (p q : A → Bool) (other : (x : A) → q x ≡ true → p x ≡ false) where
-  first_after : (n : ℕ) (l : List A) → n ≤ length l → all q (take n l) ≡ true → first p l ≡ n + first p (drop n l)
+  pub first_after : (n : ℕ) (l : List A) → n ≤ length l → all q (take n l) ≡ true → first p l ≡ n + first p (drop n l)
   first_after zero l h e = omega arith
   first_after (suc n) [] h e = absurd (omega arith)
   first_after (suc n) (x ∷ l) h e =

@@ -3,8 +3,8 @@
 #![tactic(auto)]
 
 ghost use Rattle.std.specs.Prelude.{◌≡◌, eqb};
-ghost use Rattle.scan.specs.Lists.{all, is_digit, is_capital, is_name, is_text};
-ghost use Rattle.scan.specs.Found.{FirstOf, FirstFrom, Trimmed, in_class, is_small, other_case};
+ghost use Rattle.scan.specs.Lists.{all, is_name, is_text};
+ghost use Rattle.scan.specs.Found.{FirstOf, FirstFrom, Trimmed, in_class, other_case};
 ghost use Rattle.scan.specs.Text.{seen, are_alike};
 
 // A class of bytes, handed to a scan.
@@ -26,38 +26,16 @@ pub enum Class {
     NotText,
 }
 
-fn is_digit(b: u8) -> bool
-    ensures { result ≡ is_digit b }
-{
-    (b'0' <= b) & (b <= b'9')
-}
-
-fn is_capital(b: u8) -> bool
-    ensures { result ≡ is_capital b }
-{
-    (b'A' <= b) & (b <= b'Z')
-}
-
-fn is_small(b: u8) -> bool
-    ensures { result ≡ is_small b }
-{
-    (b'a' <= b) & (b <= b'z')
-}
-
 fn is_name(b: u8) -> bool
     ensures { result ≡ is_name b }
 {
-    ((b'A' <= b) & (b <= b'Z'))
-        | ((b'a' <= b) & (b <= b'z'))
-        | ((b'0' <= b) & (b <= b'9'))
-        | (b == b'-')
-        | (b == b'.')
+    b.is_ascii_alphanumeric() | (b == b'-') | (b == b'.')
 }
 
 fn is_text(b: u8) -> bool
     ensures { result ≡ is_text b }
 {
-    (32 <= b) & (b <= 126)
+    matches!(b, b' '..=b'~')
 }
 
 // Whether a byte is of the class.
@@ -66,8 +44,8 @@ fn in_class(c: Class, b: u8) -> bool
 {
     match c {
         Class::Is(x) => b == x,
-        Class::Not(x) => !(b == x),
-        Class::Digit => is_digit(b),
+        Class::Not(x) => b != x,
+        Class::Digit => b.is_ascii_digit(),
         Class::Name => is_name(b),
         Class::NotName => !is_name(b),
         Class::Text => is_text(b),
@@ -79,52 +57,31 @@ fn in_class(c: Class, b: u8) -> bool
 fn first_among(s: &[u8], c: Class) -> usize
     ensures { FirstOf (in_class c) s.now result }
 {
-    let mut at = 0;
-    while at < s.len() {
-        if in_class(c, s[at]) {
-            return at;
-        }
-        at += 1;
-    }
-    at
+    s.iter().position(|b| in_class(c, *b)).unwrap_or(s.len())
 }
 
-// The place of the first byte that is x. Eight bytes are compared in a row before the end is looked for again; the last ones are compared
-// here too, since a call of `first_among` costs more than they do.
+// The place of the first byte that is x. Eight bytes are compared in a row before the end is looked for again. They are counted: taken by
+// `as_chunks`, or sought by `position`, they cost a SETUP some 150 instructions more.
 fn first_is(s: &[u8], x: u8) -> usize
     ensures { FirstOf (in_class (Class.Is x)) s.now result }
 {
     let mut at = 0;
     while 8 <= s.len() - at {
-        let mut i = 0;
-        while i < 8 {
-            if in_class(Class::Is(x), s[at + i]) {
+        for i in 0..8 {
+            if s[at + i] == x {
                 return at + i;
             }
-            i += 1;
         }
-        at += i;
+        at += 8;
     }
-    while at < s.len() {
-        if in_class(Class::Is(x), s[at]) {
-            return at;
-        }
-        at += 1;
-    }
-    at
+    at + first_among(&s[at..], Class::Is(x))
 }
 
-// Whether every byte is text. There is no early way out, so that many bytes can be looked at at once.
-fn are_text(s: &[u8]) -> bool
-    ensures { result ≡ all is_text s.now }
+// Whether every byte is of the class. There is no early way out, so that many bytes can be looked at at once.
+pub fn all_in(s: &[u8], c: Class) -> bool
+    ensures { result ≡ all (in_class c) s.now }
 {
-    let mut text = true;
-    let mut i = 0;
-    while i < s.len() {
-        text = text & is_text(s[i]);
-        i += 1;
-    }
-    text
+    s.iter().fold(true, |all, b| all & in_class(c, *b))
 }
 
 // The place of the first byte that is not text, or the length. Blocks of sixteen bytes of text are passed over; in the block that holds
@@ -132,48 +89,27 @@ fn are_text(s: &[u8]) -> bool
 pub fn text_end(s: &[u8]) -> usize
     ensures { FirstOf (in_class Class.NotText) s.now result }
 {
-    let mut at = 0;
-    while 16 <= s.len() - at {
-        let end = at + 16;
-        if !are_text(&s[at..end]) {
-            let mut k = 0;
-            while k < 16 {
-                if in_class(Class::NotText, s[at + k]) {
-                    return at + k;
-                }
-                k += 1;
+    let (blocks, rest) = s.as_chunks::<16>();
+    for (i, block) in blocks.iter().enumerate() {
+        if !all_in(block, Class::Text) {
+            if let Some(k) = block.iter().position(|b| !is_text(*b)) {
+                return 16 * i + k;
             }
         }
-        at = end;
     }
-    at + first_among(&s[at..], Class::NotText)
-}
-
-// Whether no byte is x.
-fn are_other(s: &[u8], x: u8) -> bool
-    ensures { result ≡ all (in_class (Class.Not x)) s.now }
-{
-    let mut other = true;
-    let mut i = 0;
-    while i < s.len() {
-        other = other & (s[i] != x);
-        i += 1;
-    }
-    other
+    s.len() - rest.len() + first_among(rest, Class::NotText)
 }
 
 // The place of the first byte that is x, or the length, where it is likely to be far: blocks of sixteen other bytes are passed over.
 pub fn first_far(s: &[u8], x: u8) -> usize
     ensures { FirstOf (in_class (Class.Is x)) s.now result }
 {
-    let mut at = 0;
-    while 16 <= s.len() - at {
-        let past = at + 16;
-        if !are_other(&s[at..past], x) {
-            break;
-        }
-        at = past;
-    }
+    let (blocks, _) = s.as_chunks::<16>();
+    let at = 16
+        * blocks
+            .iter()
+            .position(|block| !all_in(block, Class::Not(x)))
+            .unwrap_or(blocks.len());
     at + first_is(&s[at..], x)
 }
 
@@ -197,21 +133,6 @@ pub fn first_from(s: &[u8], from: usize, c: Class) -> usize
     from + first_in(&s[from..], c)
 }
 
-// Whether every byte is of the class.
-pub fn all_in(s: &[u8], c: Class) -> bool
-    ensures { result ≡ all (in_class c) s.now }
-{
-    let mut i = 0;
-    while i < s.len() {
-        if in_class(c, s[i]) {
-            i += 1;
-        } else {
-            return false;
-        }
-    }
-    true
-}
-
 // Whether the case of ASCII letters tells two texts apart.
 #[derive(Clone, Copy)]
 pub enum Case {
@@ -223,10 +144,10 @@ pub enum Case {
 fn other_case(b: u8) -> u8
     ensures { result ≡ other_case b }
 {
-    if is_capital(b) {
+    if b.is_ascii_uppercase() {
         return b + 32;
     }
-    if is_small(b) {
+    if b.is_ascii_lowercase() {
         return b - 32;
     }
     b
@@ -249,13 +170,9 @@ pub fn are_alike(s: &[u8], t: &[u8], case: Case) -> bool
     if s.len() != t.len() {
         return false;
     }
-    let mut alike = true;
-    let mut at = 0;
-    while at < s.len() {
-        alike = alike & is_pair_alike(case, s[at], t[at]);
-        at += 1;
-    }
-    alike
+    s.iter()
+        .zip(t)
+        .fold(true, |alike, (x, y)| alike & is_pair_alike(case, *x, *y))
 }
 
 // A part of a slice, from start up to, not including, end.
@@ -269,15 +186,10 @@ pub struct Span {
 pub fn trimmed(s: &[u8]) -> Span
     ensures { Trimmed s.now result }
 {
-    let a = first_in(s, Class::Not(b' '));
-    let mut e = s.len();
-    while a < e {
-        let last = e - 1;
-        if s[last] == b' ' {
-            e = last;
-        } else {
-            return Span { start: a, end: e };
-        }
+    let start = first_in(s, Class::Not(b' '));
+    let mut end = s.len();
+    while start < end && s[end - 1] == b' ' {
+        end -= 1;
     }
-    Span { start: a, end: e }
+    Span { start, end }
 }

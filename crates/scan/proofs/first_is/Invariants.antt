@@ -8,17 +8,8 @@ use Rattle.scan.proofs.first_is.Given as goal
 abbrev pub invariant-loop-i : goal.invariant-loop-i
 invariant-loop-i l = Seeking (in_class (Is l.x)) l.s (l.at + l.i)
 
-abbrev pub decreases-loop-i : goal.decreases-loop-i
-decreases-loop-i l = 8 - l.i
-
 abbrev pub invariant-loop-at : goal.invariant-loop-at
 invariant-loop-at l = Seeking (in_class (Is l.x)) l.s l.at
 
 abbrev pub decreases-loop-at : goal.decreases-loop-at
 decreases-loop-at l = length l.s - l.at
-
-abbrev pub invariant-loop-at-2 : goal.invariant-loop-at-2
-invariant-loop-at-2 l = Seeking (in_class (Is l.x)) l.s l.at
-
-abbrev pub decreases-loop-at-2 : goal.decreases-loop-at-2
-decreases-loop-at-2 l = length l.s - l.at
