@@ -7,7 +7,7 @@ use native.Mathlib.Omega.{arith}
 use lib.Dec.{ltb, eqb}
 use lib.ListN.{length, take, drop, get_or, length-take, length-drop}
 use lib.Seq.{drop-drop}
-use borrow.Author.Tests.{ltb-true, ltb-false, not-false}
+use borrow.Author.Tests.{ltb-true, ltb-false}
 use Rattle.std.proofs.Common.{Option, Some, None}
 use Rattle.std.proofs.lemmas.Nat.{mul-le}
 use Rattle.std.specs.List.{fold, zip, position, position_or_len}
@@ -16,7 +16,7 @@ use Rattle.std.specs.Simd.{first_chunks}
 use Rattle.scan.specs.Lists.{all, first, part}
 use Rattle.scan.specs.Found.{FirstOf}
 use Rattle.scan.specs.Text.{alike_by}
-use Rattle.scan.proofs.Bools.{never, and_and, by_test}
+use Rattle.scan.proofs.Bools.{and_and, by_test}
 use Rattle.scan.proofs.Loops.{Seeking, seeking_start, seeking_block, seeking_at, first_after, first_front}
 use Rattle.scan.proofs.Parts.{part_length}
 

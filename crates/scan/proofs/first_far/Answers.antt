@@ -1,4 +1,4 @@
-use Rattle.std.proofs.Common.{rules, tests, not, List, ℕ, ◌≡◌, ◌*◌, ◌/◌, ◌≤◌, ◌∙◌, ap, sym, arith, length}
+use Rattle.std.proofs.Common.{rules, tests, not, List, ℕ, ◌≡◌, ◌*◌, ◌/◌, ◌∙◌, ap, sym, arith, length}
 use Rattle.std.specs.Simd.{first_chunks}
 use Rattle.std.proofs.lemmas.Iterator.{YieldsList-from_slice}
 use Rattle.std.proofs.lemmas.Iterator.Search.{position_from_yields_List}

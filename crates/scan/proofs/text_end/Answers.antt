@@ -1,4 +1,4 @@
-use Rattle.std.proofs.Common.{rules, tests, not, ap, sym, ◌∙◌, ◌/◌, ◌*◌, ◌≤◌, ◌<◌, length, get_or, arith, []}
+use Rattle.std.proofs.Common.{rules, tests, not, ap, ◌/◌, length, get_or, arith, []}
 use Rattle.std.proofs.lemmas.Iterator.{YieldsList-from_slice}
 use Rattle.std.proofs.lemmas.Iterator.Search.{position_from_yields_List}
 use Rattle.scan.specs.Found.{in_class}
