@@ -1,7 +1,7 @@
 -- WHO IS NOT REFUSED. A request that steps 1 to 10 let through, and that names an open session, is answered 200 where it is an OPTIONS, whatever stream it
 -- names, and where it is a TEARDOWN of that session's stream; what they then do is said in `Methods`. And document 01's answer text by examples: what each
 -- method is answered on 200, the refusals that carry a line more, and each step that P1 to P11 do not try. Assumes nothing.
-use Rattle.std.specs.Prelude.{Some, None, is_some}
+use Rattle.std.specs.Prelude.{Some, None, is_some, true}
 use mathlib.Core.Path.{◌≡◌, refl, sym, ◌∙◌, ap}
 use mathlib.Core.List.{List, [], ◌∷◌}
 use Prim.Native.Nat.{ℕ, ◌<◌}

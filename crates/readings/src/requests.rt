@@ -5,13 +5,14 @@ use std::io::{self, Read};
 
 // The line in brackets; of a long one its start.
 fn name(rt: &impl Print, s: &[u8]) -> io::Result<()> {
-    if s.len() <= 100 {
-        return out::bracketed(rt, s);
+    match s.get(..40) {
+        Some(start) if 100 < s.len() => {
+            print!(rt; "[")?;
+            rt.write_all(start)?;
+            print!(rt; "..]")
+        }
+        _ => out::bracketed(rt, s),
     }
-    let start = &s[..40];
-    print!(rt; "[")?;
-    rt.write_all(start)?;
-    print!(rt; "..]")
 }
 
 fn line(rt: &impl Print, s: &[u8]) -> io::Result<()> {
