@@ -28,10 +28,10 @@ use Rattle.closings.specs.Closing.{Did, nothing, restreamed, reseated, noting, i
 use Rattle.serving.specs.Serving.{has_place, guest, seating_as as seated, can_join, joining, can_open, opening}
 use Rattle.serving.specs.Serving.{with_session, answered}
 use Rattle.serving.specs.declared.opening.Client.{Client}
-use Rattle.satbox.specs.Calls.{if_done, ticked, collected, emptied, requested, replied}
+use Rattle.satbox.specs.Calls.{if_done, request_outcome, ticked, collected, emptied, requested, replied}
 use Rattle.closings.proofs.Keeping.{Whole, clock_whole}
 use Rattle.satbox.proofs.Kept.{sweeping_whole}
-use Rattle.lives.specs.Calls.{Lent, Call, request, tick, collect, order, Life, live}
+use Rattle.lives.specs.Calls.{Lent, Call, request, tick, collect, order, Life, live, lent}
 use Rattle.lives.specs.Closed.{takes, says_closed, unnumbered, sweep_closings, teardown_closings, place_named_by, Sweeps, in_request, in_tick, Stays, TearsDown, in_teardown, Ends, expired, torn}
 use Rattle.lives.proofs.Lived.{lived, lived_as}
 use Rattle.lives.proofs.Requests.{Kin, Retuned, retuned_same, answered_holds}

@@ -72,6 +72,7 @@ module _ {settings : Settings} {x : Life} (g : Good settings x) where
       }
 
   lived_good : (c : Call) → is_call settings.size c ≡ true → Good settings (lived_as c x)
+  unfolding well_formed collected
   lived_good (request s clock address draw b own) e =
       let p = and_both (is_short clock) _ e in
       let q = and_both (is_short draw) _ (and_both (is_short address) _ p.1).1 in
