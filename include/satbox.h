@@ -60,13 +60,13 @@
  * Bytes of stack that each call takes, with its arguments on it and its return address. docs/FIRMWARE.md says how that was measured. They are of this
  * archive: one of the same version that another kit built takes others (its MANIFEST names the kit).
  */
-#define SATBOX_STACK_REQUEST 7744u
-#define SATBOX_STACK_TICK 3272u
-#define SATBOX_STACK_ORDER 6200u
-#define SATBOX_STACK_COLLECT 2808u
-#define SATBOX_STACK_MAKE 1576u
+#define SATBOX_STACK_REQUEST 4504u
+#define SATBOX_STACK_TICK 3280u
+#define SATBOX_STACK_ORDER 304u
+#define SATBOX_STACK_COLLECT 3280u
+#define SATBOX_STACK_MAKE 104u
 #define SATBOX_STACK_WRITE_RECORD 72u
-#define SATBOX_STACK_READ_RECORD 56u
+#define SATBOX_STACK_READ_RECORD 32u
 #define SATBOX_STACK_VERSION 8u
 
 /* Refusals. */
