@@ -21,10 +21,9 @@ use Rattle.aim.specs.Found.{is_within, is_query, text_of, QueryIs, Reached, Refu
 use Rattle.std.specs.Prelude.{Option, Some, None, Result, Ok, Err, MatchResult, is_some, MatchOption, ok_or}
 use Rattle.std.specs.Bool.{then_some}
 use Rattle.target.specs.Steps.{question}
-use Rattle.refusals.specs.Refusals.{is_read}
 use Rattle.aim.specs.Aim.{has_stream, uri_refusal}
 use Rattle.refusals.specs.declared.Refusal.{Refusal}
-use Rattle.refusals.specs.declared.Refusal.TheVariants.{Passed, UriLong, UriForm, QueryUntaken, QueryForm, NoStream}
+use Rattle.refusals.specs.declared.Refusal.TheVariants.{UriLong, UriForm, QueryUntaken, QueryForm, NoStream}
 use Rattle.aim.specs.declared.Method.{Method}
 use Rattle.aim.specs.declared.Aim.{Aim}
 use Rattle.aim.specs.declared.query.Query.{Query}
@@ -41,11 +40,11 @@ some_read P Q h z = rw z at h
 
 pub uri_long : (frontends : ℕ) (method : Method) (u : List ℕ) → 1024 < length u → Refuses frontends method u UriLong
 unfolding uri_refusal
-uri_long frontends method u h = (rw (lt-ltb 1024 (length u) h), refl)
+uri_long frontends method u h = rw (lt-ltb 1024 (length u) h)
 
 pub uri_form : (frontends : ℕ) (method : Method) (u : List ℕ) → length u ≤ 1024 → is_uri u ≡ false → Refuses frontends method u UriForm
 unfolding uri_refusal
-uri_form frontends method u h n = (rw (le-ltb 1024 (length u) h, n), refl)
+uri_form frontends method u h n = rw (le-ltb 1024 (length u) h, n)
 
 -- the stream that a sound URI names
 module _ (frontends : ℕ) (method : Method) (u : List ℕ) {t : Uri} {start : Option ℕ} (r : Reached u t start) where
@@ -69,8 +68,8 @@ module _ (frontends : ℕ) (method : Method) (u : List ℕ) {t : Uri} {start : O
   some a = ltb 0 (length (text_in a ps))
 
   chain : uri_refusal frontends method u
-      ≡ (b && takes_no_query method) gives QueryUntaken or
-      not (are_parts [] ps) gives QueryForm or
+      ≡ (b && takes_no_query method) gives Some QueryUntaken or
+      not (are_parts [] ps) gives Some QueryForm or
       judged (some 10 && (some 11 || some 12))
       ((some 11 || some 12) && not (has_stream u))
       (not (all (is_within frontends) ps))
@@ -86,7 +85,7 @@ module _ (frontends : ℕ) (method : Method) (u : List ℕ) {t : Uri} (r : Reach
   unasked_by : (l : Bool) → lacks_stream method (not (eqb t.stream 0)) false ≡ l
       → MatchResult (cond l (Err NoStream) (Ok (record { codes = replicate 13 0; spans = replicate 13 nowhere; stream = t.stream; host = t.host; query = nowhere }))) (AimIs frontends method u) (Refuses frontends method u)
   unfolding text_in code_in
-  unasked_by true y = (sym (chain frontends method u r ∙ rw (lacks y)), refl)
+  unasked_by true y = chain frontends method u r ∙ rw (lacks y)
     where
       lacks : lacks_stream method (not (eqb t.stream 0)) false ≡ true → lacks_stream method (has_stream u) false ≡ true
       lacks e = ap (λ x. lacks_stream method x false) (sym (stream_named_law frontends method u r refl)) ∙ e
@@ -124,11 +123,11 @@ module _ (frontends : ℕ) (method : Method) (u : List ℕ) {t : Uri} {start : �
   query_inside = query_held.order
 
   pub asked_untaken : {x : Bool} → x ≡ takes_no_query method → x ≡ true → Refuses frontends method u QueryUntaken
-  asked_untaken e y = (sym (chain frontends method u r ∙ rw (sym e ∙ y)), refl)
+  asked_untaken e y = chain frontends method u r ∙ rw (sym e ∙ y)
 
   module _ {x : Bool} (e : x ≡ takes_no_query method) (n : x ≡ false) where
     pub asked_broken : is_query (part start (length u) u) ≡ false → Refuses frontends method u QueryForm
-    asked_broken z = (sym (chain frontends method u r ∙ rw (sym e ∙ n, ap is_query (sym query_held.is) ∙ z)), refl)
+    asked_broken z = chain frontends method u r ∙ rw (sym e ∙ n, ap is_query (sym query_held.is) ∙ z)
 
     module _ {q : Query} (i : QueryIs frontends (part start (length u) u) q) {s : Bool} (g : s ≡ not (eqb t.stream 0)) where
       own : QueryIs frontends (query_of u) q
@@ -142,14 +141,14 @@ module _ (frontends : ℕ) (method : Method) (u : List ℕ) {t : Uri} {start : �
           rw (given 10, given 11, given 12, own.within, stream_named_law frontends method u r g)
           (sym (chain frontends method u r ∙ rw (sym e ∙ n, own.form)))
 
-      pub asked_refused : {v : Refusal} → (v ≡ verdict_of method s q) × (is_read v ≡ false) → Refuses frontends method u v
-      asked_refused d = (d.0 ∙ verdict_is, d.1)
+      pub asked_refused : {v : Refusal} → Some v ≡ verdict_of method s q → Refuses frontends method u v
+      asked_refused d = sym (d ∙ verdict_is)
 
-      pub asked_passed : verdict_of method s q ≡ Passed
+      pub asked_passed : None ≡ verdict_of method s q
           → AimIs frontends method u (record { codes = q.codes; spans = q.spans; stream = t.stream; host = t.host; query = record { start = start; end = length u } })
       asked_passed p =
           record {
-            passes = sym verdict_is ∙ p;
+            passes = sym (p ∙ verdict_is);
             stream = r.is.stream;
             host = r.is.host;
             query = query_held;

@@ -1,6 +1,6 @@
 -- What the functions of this crate promise each other and the crates above: what was found of a query and a URI, and where it stands. No call
 -- of the box reaches it. Assumes nothing.
-use Rattle.std.specs.Prelude.{ℕ, ◌+◌, ◌≤◌, ◌≡◌, true, false, Bool, not, cond, ◌&&◌, ◌||◌, List, [], ◌∷◌, eqb, ltb, length, get_or, replicate, Option, MatchOption, Result, Ok, Err, Some, is_some}
+use Rattle.std.specs.Prelude.{ℕ, ◌+◌, ◌≤◌, ◌≡◌, true, false, Bool, not, cond, ◌&&◌, ◌||◌, List, [], ◌∷◌, eqb, ltb, length, get_or, replicate, Option, MatchOption, Result, Ok, Err, Some, is_some, None}
 use Rattle.scan.specs.Found.{Holds, nowhere, place_in}
 use Rattle.aim.specs.declared.query.Part.{Part}
 use Rattle.aim.specs.declared.query.Query.{Query}
@@ -9,9 +9,8 @@ use Rattle.scan.specs.declared.Span.{Span}
 use Rattle.target.specs.Uri.{stream_named, host_of, has_query, query_of}
 use Rattle.target.specs.Steps.{question, UriIs}
 use Rattle.target.specs.declared.Uri.{Uri}
-use Rattle.refusals.specs.Refusals.{is_read}
 use Rattle.refusals.specs.declared.Refusal.{Refusal}
-use Rattle.refusals.specs.declared.Refusal.TheVariants.{Passed, PidsClash, PidsUnstreamed, NoStream}
+use Rattle.refusals.specs.declared.Refusal.TheVariants.{PidsClash, PidsUnstreamed, NoStream}
 use Rattle.aim.specs.declared.Method.{Method}
 use Rattle.aim.specs.declared.Aim.{Aim}
 use Rattle.aim.specs.Aim.{method_number, uri_refusal}
@@ -112,21 +111,16 @@ abbrev pub is_span : Span → Bool
 is_span s = ltb s.start s.end
 
 -- steps 8 to 10 of a query that has its form, by what was found of it
-abbrev pub judged : Bool → Bool → Bool → Bool → Refusal
+abbrev pub judged : Bool → Bool → Bool → Bool → Option Refusal
 judged clash unstreamed outside lacks =
-    clash gives PidsClash or
-    unstreamed gives PidsUnstreamed or
-    outside gives Outside or
-    lacks gives NoStream or
-    Passed
-
--- nothing refuses, or that refusal
-abbrev pub Judged : {A : Type 0} → Result A Refusal → Refusal → Type 0
-Judged (Ok x) refusal = refusal ≡ Passed
-Judged (Err e) refusal = (e ≡ refusal) × (is_read e ≡ false)
+    clash gives Some PidsClash or
+    unstreamed gives Some PidsUnstreamed or
+    outside gives Some Outside or
+    lacks gives Some NoStream or
+    None
 
 -- what is wrong with a query that has its form, by what was read of it
-abbrev pub verdict_of : Method → Bool → Query → Refusal
+abbrev pub verdict_of : Method → Bool → Query → Option Refusal
 verdict_of method stream q =
     judged (is_span (get_or q.spans 10 nowhere) && (is_span (get_or q.spans 11 nowhere) || is_span (get_or q.spans 12 nowhere)))
     ((is_span (get_or q.spans 11 nowhere) || is_span (get_or q.spans 12 nowhere)) && not stream)
@@ -141,11 +135,11 @@ unasked method t =
 
 -- the first refusal that applies
 abbrev pub Refuses : ℕ → Method → List ℕ → Refusal → Type 0
-Refuses frontends method u refusal = (refusal ≡ uri_refusal frontends method u) × (is_read refusal ≡ false)
+Refuses frontends method u refusal = uri_refusal frontends method u ≡ Some refusal
 
 -- what a URI that nothing refuses asks, and where that stands
 pub record AimIs (frontends : ℕ) (method : Method) (u : List ℕ) (r : Aim) : Type 0 where
-  pub passes : uri_refusal frontends method u ≡ Passed
+  pub passes : uri_refusal frontends method u ≡ None
   pub stream : Some r.stream ≡ stream_named u
   pub host : Holds u (host_of u) r.host.start r.host.end
   pub query : Holds u (query_of u) r.query.start r.query.end

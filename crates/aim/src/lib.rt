@@ -4,7 +4,8 @@
 mod query;
 
 ghost use Rattle.std.specs.Prelude.{◌≡◌, Some, MatchResult};
-ghost use Rattle.aim.specs.Found.{takes_no_query, lacks_stream, Judged, judged, is_span, verdict_of, Reached, unasked, AimIs, Refuses};
+ghost use Rattle.std.specs.Result.{result_err};
+ghost use Rattle.aim.specs.Found.{takes_no_query, lacks_stream, judged, is_span, verdict_of, Reached, unasked, AimIs, Refuses};
 
 use query::Query;
 use refusals::Refusal;
@@ -60,7 +61,7 @@ fn is_span(s: Span) -> bool
 }
 
 fn judge(clash: bool, unstreamed: bool, outside: bool, lacks: bool) -> Result<(), Refusal>
-    ensures { Judged result (judged clash unstreamed outside lacks) }
+    ensures { result_err result ≡ judged clash unstreamed outside lacks }
 {
     if clash {
         return Err(Refusal::PidsClash);
@@ -95,7 +96,7 @@ fn unasked(method: Method, uri: Uri) -> Result<Aim, Refusal>
 
 // What is wrong with a query that has its form.
 fn verdict(method: Method, stream: bool, query: &Query) -> Result<(), Refusal>
-    ensures { Judged result (verdict_of method stream query.now) }
+    ensures { result_err result ≡ verdict_of method stream query.now }
 {
     let pids = is_span(query.spans[10]);
     let edits = is_span(query.spans[11]) | is_span(query.spans[12]);

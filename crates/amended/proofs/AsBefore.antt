@@ -31,10 +31,10 @@ use Rattle.finding.specs.Finding.{lowest_id, is_held}
 use Rattle.closings.specs.Closing.{Did, when, nothing, restreamed, closing}
 use Rattle.closings.proofs.Keeping.{Whole}
 use Rattle.steps.specs.Sights.{Asked, Lists, asked_of, lists_of, sight_of}
-use Rattle.steps.specs.Steps.{is_passed, is_named, table_case}
+use Rattle.steps.specs.Steps.{is_passed, is_named, table_case, read_case}
 use Rattle.steps.specs.declared.Sight.{Sight}
 use Rattle.steps.specs.declared.cases.Case.{Case}
-use Rattle.steps.specs.declared.cases.Case.TheVariants.{Passed, Full, Reading}
+use Rattle.steps.specs.declared.cases.Case.TheVariants.{Passed, Full}
 use Rattle.serving.specs.Serving.{has_place, has_room, guest, seating_as, can_join, joining, merges, merge_case, is_opening, with_session, kept, seat_after, Serving, granted, denied, client_of}
 use Rattle.serving.specs.declared.opening.Client.{Client}
 use Rattle.amended.proofs.Reaching.{AllReach, full_has, is_free_frontend}
@@ -105,7 +105,7 @@ answered_before s address draw t =
     let a = asked_of t.settings.frontends s in
     cond (reading.is_read (request_refusal t.settings.frontends s))
     (served_before (kept a t) a (lists_of s) (client_of address draw a))
-    (denied t (Reading (request_refusal t.settings.frontends s)))
+    (denied t (read_case (request_refusal t.settings.frontends s)))
 
 -- THE LOWEST: those below it are held, and it is not, if it is one of the box's
 pub record Lowest (t : SatBox) (more f r : ℕ) : Type 0 where

@@ -8,6 +8,7 @@ use native.Mathlib.Omega.{arith}
 use lib.Dec.{eqb, ltb}
 use lib.ListN.{length, get_or}
 use borrow.Author.Tests.{eqb-true, le-leb}
+use Rattle.std.specs.Prelude.{Option, Some, None}
 use Rattle.scan.specs.Lists.{all, is_digit, is_text, ◌gives◌or◌}
 use Rattle.scan.specs.Text.{text, ◌&◌, is_empty, are_alike}
 use Rattle.scan.specs.declared.Case.TheVariants.{Counts}
@@ -35,7 +36,7 @@ use Rattle.table.specs.declared.Session.{Session}
 use Rattle.table.specs.declared.SatBox.{SatBox}
 use Rattle.closings.specs.Closing.{sweeping}
 use Rattle.steps.specs.Sights.{asked_of, lists_of}
-use Rattle.steps.specs.Steps.{rule_of, is_passed}
+use Rattle.steps.specs.Steps.{rule_of, is_passed, read_case}
 use Rattle.steps.specs.Replies.{granted_lines, reply_text}
 use Rattle.steps.specs.declared.cases.Case.{Case}
 use Rattle.steps.specs.declared.cases.Case.TheVariants.{Reading}
@@ -54,25 +55,25 @@ abbrev pub cseq_before : Option ℕ → List ℕ
 cseq_before (Some n) = line "CSeq: " (decimal n)
 cseq_before None = []
 
-unfoldable pub head_before : List ℕ → Refusal
+unfoldable pub head_before : List ℕ → Option Refusal
 head_before s =
-    not (is_laid_out s) gives refusal.Layout or
-    not (is_some (number_before s)) gives refusal.CSeq or
-    not (is_three (request_line s)) gives refusal.RequestLine or
-    (is_twice 1 s || is_twice 2 s || is_twice 3 s || is_twice 4 s) gives refusal.HeaderTwice or
-    not (are_alike Counts (line_part 2 (request_line s)) (text "RTSP/1.0")) gives refusal.Version or
-    ltb 0 (length (values_of 3 (header_lines s))) gives refusal.Require or
-    eqb (method_number (method_of s)) 4 gives refusal.Method or
-    refusal.Passed
+    not (is_laid_out s) gives Some refusal.Layout or
+    not (is_some (number_before s)) gives Some refusal.CSeq or
+    not (is_three (request_line s)) gives Some refusal.RequestLine or
+    (is_twice 1 s || is_twice 2 s || is_twice 3 s || is_twice 4 s) gives Some refusal.HeaderTwice or
+    not (are_alike Counts (line_part 2 (request_line s)) (text "RTSP/1.0")) gives Some refusal.Version or
+    ltb 0 (length (values_of 3 (header_lines s))) gives Some refusal.Require or
+    eqb (method_number (method_of s)) 4 gives Some refusal.Method or
+    None
 
-abbrev pub refusal_before : ℕ → List ℕ → Refusal
+abbrev pub refusal_before : ℕ → List ℕ → Option Refusal
 refusal_before frontends s = not (reading.is_read (head_before s)) gives head_before s or uri_refusal frontends (method_of s) (uri_of s)
 
 unfoldable pub served_before : List ℕ → ℕ → ℕ → SatBox → Serving
 served_before s address draw t =
     let asked = asked_of t.settings.frontends s in
     cond (reading.is_read (refusal_before t.settings.frontends s)) (served (kept asked t) asked (lists_of s) (client_of address draw asked))
-    (denied t (Reading (refusal_before t.settings.frontends s)))
+    (denied t (read_case (refusal_before t.settings.frontends s)))
 
 unfoldable pub requested_before : List ℕ → ℕ → ℕ → ℕ → SatBox → Serving
 requested_before s clock address draw t = following (sweeping clock t) (served_before s address draw (sweeping clock t).satbox)
@@ -222,15 +223,15 @@ module _ (c : Case) (s : List ℕ) (session : Session) (n : is_empty (cseq_of s)
       ∙ ap (λ ls. get_or ls 0 []) (line_first (text "CSeq: " & cseq_of s) _ (digits_text (cseq_of s) d))
 
 -- the answer of steps 1 and 2
-refusal_early : (frontends : ℕ) (s : List ℕ) (r : Refusal) → head_refusal s ≡ r → reading.is_read r ≡ false → request_refusal frontends s ≡ r
+refusal_early : (frontends : ℕ) (s : List ℕ) (r : Refusal) → head_refusal s ≡ Some r → request_refusal frontends s ≡ Some r
 unfolding request_refusal
-refusal_early frontends s r h n = rw (h, n)
+refusal_early frontends s r h = rw h
 
-unlaid : (s : List ℕ) → is_laid_out s ≡ false → head_refusal s ≡ refusal.Layout
+unlaid : (s : List ℕ) → is_laid_out s ≡ false → head_refusal s ≡ Some refusal.Layout
 unfolding head_refusal
 unlaid s z = rw z
 
-uncounted : (s : List ℕ) → is_laid_out s ≡ true → cseq_of s ≡ [] → head_refusal s ≡ refusal.CSeq
+uncounted : (s : List ℕ) → is_laid_out s ≡ true → cseq_of s ≡ [] → head_refusal s ≡ Some refusal.CSeq
 unfolding head_refusal
 uncounted s y e = rw (y, e)
 
@@ -277,17 +278,17 @@ module _ (s : List ℕ) (clock address draw : ℕ) (t : SatBox) where
       rw (← e) (second_line turn.case s turn.session (sent e d) (rw e d.are))
 
   -- AND NO OTHER ANSWER CARRIES ONE
-  refused_early : (r : Refusal) → head_refusal s ≡ r → reading.is_read r ≡ false → answer_of s clock address draw t ≡ reply_text (Reading r) s no_session
+  refused_early : (r : Refusal) → head_refusal s ≡ Some r → answer_of s clock address draw t ≡ reply_text (Reading r) s no_session
   unfolding answer_of requested answered
-  refused_early r h n = rw (refusal_early (sweeping clock t).satbox.settings.frontends s r h n, n)
+  refused_early r h = rw (refusal_early (sweeping clock t).satbox.settings.frontends s r h)
 
   pub none_comes_back : ((digits : List ℕ) → Sends s digits → ⊥) → answer_of s clock address draw t ≡ text "RTSP/1.0 400 Bad Request\r\n\r\n"
   none_comes_back n = by (sending s) (case (is_laid_out s))
     where
       by : Sending s → Test (is_laid_out s) → answer_of s clock address draw t ≡ text "RTSP/1.0 400 Bad Request\r\n\r\n"
       by (some d f) l = absurd (n (cseq_of s) d)
-      by (none e f) (isnt z) = refused_early refusal.Layout (unlaid s z) refl ∙ (early_text s e).0
-      by (none e f) (is y) = refused_early refusal.CSeq (uncounted s y e) refl ∙ (early_text s e).1
+      by (none e f) (isnt z) = refused_early refusal.Layout (unlaid s z) ∙ (early_text s e).0
+      by (none e f) (is y) = refused_early refusal.CSeq (uncounted s y e) ∙ (early_text s e).1
 
   -- AS BEFORE: the same case, session, table and records, whatever the CSeq
   pub requested_as_before : requested s clock address draw t ≡ requested_before s clock address draw t

@@ -10,6 +10,7 @@ use lib.Dec.{ltb}
 use lib.ListN.{get_or, set}
 use lib.Seq.{get_or-set_other, map-set_same, set-set}
 use borrow.Author.Tests.{eqb-true, lt-ltb, le-ltb, ltb-true}
+use Rattle.std.specs.Prelude.{None, Option, Some}
 use Rattle.scan.proofs.Bools.{never, Case as Test, is, isnt, case, Same, same, other, sames, or_neither}
 use Rattle.refusals.specs.Refusals as reading
 use Rattle.refusals.specs.declared.Refusal.{Refusal}
@@ -26,10 +27,10 @@ use Rattle.finding.specs.Finding.{lowest_place}
 use Rattle.closings.specs.Closing.{Did, nothing, restreamed, sweeping}
 use Rattle.closings.proofs.Keeping.{Whole}
 use Rattle.steps.specs.Sights.{Asked, Lists, asked_of, lists_of, is_absent, place_named, port_of, sight_of}
-use Rattle.steps.specs.Steps.{rule_of, is_passed, is_setup, is_named, table_case}
+use Rattle.steps.specs.Steps.{rule_of, is_passed, is_setup, is_named, table_case, read_case}
 use Rattle.steps.specs.Replies.{reply_text}
 use Rattle.steps.specs.declared.cases.Case.{Case}
-use Rattle.steps.specs.declared.cases.Case.TheVariants.{Passed, Reading, NoSession}
+use Rattle.steps.specs.declared.cases.Case.TheVariants.{Passed, NoSession}
 use Rattle.serving.specs.Serving.{stream_after, merges, case_of, with_session, kept, seat_after, Serving, granted, retuned, retuning, grant, denied, served, client_of, answered}
 use Rattle.serving.specs.declared.opening.Client.{Client}
 use Rattle.serving.proofs.Kept.{seat, since, kept_by, kept_named, kept_alone, kept_place}
@@ -51,23 +52,23 @@ unfolding case_of table_case sight_of
 eleven_refuses t a l n sent = rw (n, sent)
 
 -- steps 1 to 10 come before
-early : (r : Refusal) → reading.is_read r ≡ false → passes_eleven (Reading r) ≡ false
-early refusal.Passed n = never refl n
-early refusal.Layout n = refl
-early refusal.CSeq n = refl
-early refusal.RequestLine n = refl
-early refusal.HeaderTwice n = refl
-early refusal.Version n = refl
-early refusal.Require n = refl
-early refusal.Method n = refl
-early refusal.UriLong n = refl
-early refusal.UriForm n = refl
-early refusal.QueryUntaken n = refl
-early refusal.QueryForm n = refl
-early refusal.PidsClash n = refl
-early refusal.PidsUnstreamed n = refl
-early refusal.Value n = refl
-early refusal.NoStream n = refl
+early : (r : Option Refusal) → reading.is_read r ≡ false → passes_eleven (read_case r) ≡ false
+early None n = never refl n
+early (Some refusal.Layout) n = refl
+early (Some refusal.CSeq) n = refl
+early (Some refusal.RequestLine) n = refl
+early (Some refusal.HeaderTwice) n = refl
+early (Some refusal.Version) n = refl
+early (Some refusal.Require) n = refl
+early (Some refusal.Method) n = refl
+early (Some refusal.UriLong) n = refl
+early (Some refusal.UriForm) n = refl
+early (Some refusal.QueryUntaken) n = refl
+early (Some refusal.QueryForm) n = refl
+early (Some refusal.PidsClash) n = refl
+early (Some refusal.PidsUnstreamed) n = refl
+early (Some refusal.Value) n = refl
+early (Some refusal.NoStream) n = refl
 
 -- the session itself, with the clock for its last time: its number, its client's address, its stream and its part are as they were
 pub record LastAt (clock : ℕ) (old now : Session) : Type 0 where
@@ -109,9 +110,9 @@ module _ (s : List ℕ) (address draw : ℕ) (t : SatBox) where
     pub passes : passes_eleven done.case ≡ true
     pub named : place < 32
 
-  was_read : passes_eleven done.case ≡ true → request_refusal t.settings.frontends s ≡ refusal.Passed
+  was_read : passes_eleven done.case ≡ true → request_refusal t.settings.frontends s ≡ None
   was_read =
-      answered_by s address draw t (λ x. passes_eleven x.case ≡ true → request_refusal t.settings.frontends s ≡ refusal.Passed)
+      answered_by s address draw t (λ x. passes_eleven x.case ≡ true → request_refusal t.settings.frontends s ≡ None)
       (λ e y. e) (λ n y. never y (early (request_refusal t.settings.frontends s) n))
 
   is_named_law : place < 32 → is_named (sight_of t asked) ≡ true
@@ -122,7 +123,7 @@ module _ (s : List ℕ) (address draw : ℕ) (t : SatBox) where
   unnamed_place n h = never (is_named_law h) n
 
   -- STEP 11 refuses none that names an open session: all do that steps 1 to 10 let through with its number
-  pub eleven_passes : request_refusal t.settings.frontends s ≡ refusal.Passed → place < 32 → Names
+  pub eleven_passes : request_refusal t.settings.frontends s ≡ None → place < 32 → Names
   eleven_passes read h =
       record { passes = rw (answered_case s address draw t read) (case_late t asked (lists_of s) (is_named_law h)); named = h }
 
@@ -210,7 +211,7 @@ unfoldable pub answered_before : List ℕ → ℕ → ℕ → SatBox → Serving
 answered_before s address draw t =
     let a = asked_of t.settings.frontends s in
     cond (reading.is_read (request_refusal t.settings.frontends s)) (served_before t a (lists_of s) (client_of address draw a))
-    (denied t (Reading (request_refusal t.settings.frontends s)))
+    (denied t (read_case (request_refusal t.settings.frontends s)))
 
 -- a session with 0 for its last time, and a table with such sessions: two tables that come to the same one differ in last times alone
 abbrev pub ageless : Session → Session
@@ -296,7 +297,7 @@ module _ (s : List ℕ) (address draw : ℕ) where
   unfolding answered answered_before sight_of
   unnamed_as_before t n =
       let a = asked s address draw t in
-      ap (λ x. cond (reading.is_read (request_refusal t.settings.frontends s)) x (denied t (Reading (request_refusal t.settings.frontends s))))
+      ap (λ x. cond (reading.is_read (request_refusal t.settings.frontends s)) x (denied t (read_case (request_refusal t.settings.frontends s))))
       (served_unnamed a t (lists_of s) (client_of address draw a) (le-ltb (place s address draw t) 32 (omega arith)))
 
   -- and so does an OPTIONS: the last times too

@@ -27,8 +27,8 @@ use Rattle.finding.specs.Finding.{lowest_id, is_held, can_feed, choice}
 use Rattle.closings.specs.Closing.{restreamed}
 use Rattle.closings.proofs.Keeping.{Whole}
 use Rattle.steps.specs.Sights.{Asked, Lists, asked_of, lists_of, sight_of}
-use Rattle.steps.specs.Steps.{is_passed, is_named}
-use Rattle.steps.specs.declared.cases.Case.TheVariants.{Passed, Reading}
+use Rattle.steps.specs.Steps.{is_passed, is_named, read_case}
+use Rattle.steps.specs.declared.cases.Case.TheVariants.{Passed}
 use Rattle.serving.specs.Serving.{has_place, has_room, guest, can_join, joining, can_open, opening, source_of, feed_of, merging, stream_after, merge_case, can_seat, case_of, kept, Serving, granted, retuning, grant, denied, served, client_of, answered}
 use Rattle.serving.specs.declared.opening.Client.{Client}
 use Rattle.amended.proofs.Reaching.{AllReach, is_free_frontend, feeds_if_free, new_range, case_without}
@@ -189,5 +189,5 @@ unfolding answered answered_before
 answered_as_before s address draw t w reach =
     let f = t.settings.frontends in
     let a = asked_of f s in
-    cond_alike (reading.is_read (request_refusal f s)) (denied t (Reading (request_refusal f s)))
+    cond_alike (reading.is_read (request_refusal f s)) (denied t (read_case (request_refusal f s)))
     (λ e. served_alike (kept a t) (kept_whole a t w) (subst AllReach (sym (kept_settings a t)) reach) a (lists_of s) (asked_fit f s) (client_of address draw a))

@@ -186,15 +186,14 @@ fn seats_of(
     let mut numbers = [0u32; 32];
     let mut opens = 0;
     let mut oldest = LATEST;
-    for i in 0..end {
-        let s = sessions[i];
+    for s in &sessions[..end] {
         if s.number == 0 {
-            if !is_empty(s) {
+            if !is_empty(*s) {
                 return None;
             }
             continue;
         }
-        if !is_admitted(s, clock, feeds, &numbers, opens) {
+        if !is_admitted(*s, clock, feeds, &numbers, opens) {
             return None;
         }
         numbers[opens] = s.number;

@@ -11,6 +11,7 @@ use native.Mathlib.Omega.{arith}
 use lib.Dec.{ltb}
 use lib.ListN.{length, get_or, get_or-eq_default}
 use borrow.Author.Tests.{eq-eqb, ne_eqb, eqb-true, ltb-true, lt-ltb, le-ltb, le-leb}
+use Rattle.std.specs.Prelude.{None}
 use Rattle.scan.specs.Lists.{all}
 use Rattle.scan.proofs.Bools.{never, and_both, both, by_cases, Case, is, isnt, case, Same, same, other, sames}
 use Rattle.aim.specs.declared.Method.{Method}
@@ -138,7 +139,7 @@ module _ (n i : ℕ) (some : n ≡ 0 → ⊥) (P : ℕ → Type 0) where
         answered_by s address draw t (λ (x : Serving). is_read (request_refusal t.settings.frontends s) ≡ false → Fares n i P x.did.satbox x.did.records)
         (λ e r. never (ap is_read e) r) (λ e r. remains a p)
 
-    module _ (read : request_refusal t.settings.frontends s ≡ refusal.Passed) where
+    module _ (read : request_refusal t.settings.frontends s ≡ None) where
       -- ONE THAT NAMES AN OPEN SESSION keeps it, or is a TEARDOWN that closes it
       teardown_fares : method_of s ≡ Teardown → is_passed (answered s address draw t).case ≡ true → Fares n i P u rs
       teardown_fares m y =
@@ -171,7 +172,7 @@ module _ (n i : ℕ) (some : n ≡ 0 → ⊥) (P : ℕ → Type 0) where
         refused_fares : is_passed (answered s address draw t).case ≡ false → Fares n i P u rs
         refused_fares y = stays_as (ap (λ (d : Did). d.satbox) (answered_still s address draw t y) ∙ rw read)
 
-    answered_fares : (request_refusal t.settings.frontends s ≡ refusal.Passed → place_named_by s t ≡ i → P t.clock) → Fares n i P u rs
+    answered_fares : (request_refusal t.settings.frontends s ≡ None → place_named_by s t ≡ i → P t.clock) → Fares n i P u rs
     answered_fares kept = by (case _) (case (ltb (place_named_by s t) 32)) (case _)
       where
         by : Case (is_read (request_refusal t.settings.frontends s)) → Case (ltb (place_named_by s t) 32) → Case (is_passed (answered s address draw t).case) → Fares n i P u rs
@@ -199,7 +200,7 @@ module _ (n i : ℕ) (some : n ≡ 0 → ⊥) (P : ℕ → Type 0) where
     swept_fares clock = fate_fares ((swept_fates (at_clock clock t) (clock_whole clock t w)).each i) refl a p
 
     requested_fares : (s : List ℕ) (clock address draw : ℕ)
-        → (request_refusal t.settings.frontends s ≡ refusal.Passed → session_number (session_of (values_of 1 (header_lines s))) ≡ n → P (max t.clock clock))
+        → (request_refusal t.settings.frontends s ≡ None → session_number (session_of (values_of 1 (header_lines s))) ≡ n → P (max t.clock clock))
         → Fares n i P (requested s clock address draw t).did.satbox (requested s clock address draw t).did.records
     unfolding requested
     requested_fares s clock address draw kept =
@@ -209,7 +210,7 @@ module _ (n i : ℕ) (some : n ≡ 0 → ⊥) (P : ℕ → Type 0) where
         (λ b q. answered_fares s address draw v u b q
         (λ r e.
         let l : place_named_by s v < 32 = omega (arith, inside v u b) in
-        let read : request_refusal t.settings.frontends s ≡ refusal.Passed = rw (sweeping_set clock t w).settings at r in
+        let read : request_refusal t.settings.frontends s ≡ None = rw (sweeping_set clock t w).settings at r in
         subst P (sym (sweeping_set clock t w).clock)
         (kept read (sym (named_number v u.places (session_of (values_of 1 (header_lines s))) l) ∙ (ap (λ k. (session_at v k).number) e ∙ b)))))
 

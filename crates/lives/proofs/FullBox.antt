@@ -6,6 +6,7 @@ use mathlib.Core.List.{List, [], ◌∷◌, map}
 use native.Mathlib.Omega.{arith}
 use lib.ListN.{length, replicate}
 use borrow.Author.Tests.{eq-eqb}
+use Rattle.std.specs.Prelude.{None}
 use Rattle.refusals.specs.declared.Refusal.TheVariants as refusal
 use Rattle.reader.specs.Request.{request_refusal}
 use Rattle.journal.specs.Records.{record_size}
@@ -49,7 +50,7 @@ swept n = (sweeping 0 (life n).satbox).satbox
 -- the example comes to
 pub record Meets (n room : ℕ) (case : Case) (status : ℕ) : Type 0 where
   pub lives : Lives (settings_of 2 1024) journal (calls n)
-  pub read : request_refusal 2 example ≡ refusal.Passed
+  pub read : request_refusal 2 example ≡ None
   pub else : PassesElse (swept n) (asked_of 2 example) (lists_of example)
   pub needed : (swept n).held + record_size * open_count (swept n) + 2 * record_size ≡ room
   pub is : (requested example 0 home 1 (life n).satbox).case ≡ case
@@ -78,7 +79,7 @@ idle n =
       spare = 0;
     }
 
-example_read : request_refusal 2 example ≡ refusal.Passed
+example_read : request_refusal 2 example ≡ None
 unfolding meanings
 example_read = refl
 

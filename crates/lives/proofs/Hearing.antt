@@ -11,6 +11,7 @@ use lib.Seq.{get_or-set_other}
 use native.Mathlib.Omega.{arith}
 use lib.Dec.{eqb, leb}
 use borrow.Author.Tests.{eq-eqb, ne_eqb, eqb-true, leb-true, le-leb, lt-ltb}
+use Rattle.std.specs.Prelude.{None}
 use Rattle.scan.specs.Lists.{all}
 use Rattle.scan.proofs.Bools.{never, and_both, Case, is, isnt, case, Same, same, other, sames, cond_keeps}
 use Rattle.aim.specs.declared.Method.TheVariants.{Teardown}
@@ -255,12 +256,12 @@ module _ {settings : Settings} {x : Life} (g : Good settings x) (s : List ℕ) (
   abbrev c : Call
   c = request s clock address draw b l
 
-  module _ (done : (live c x).outcome ≡ Ok tt) (read : request_refusal settings.frontends s ≡ refusal.Passed) (named : place_named_by s v < 32) where
+  module _ (done : (live c x).outcome ≡ Ok tt) (read : request_refusal settings.frontends s ≡ None) (named : place_named_by s v < 32) where
     w : Whole v
     w = sweeping_whole clock x.satbox g.whole
 
     -- read by the box's own frontends
-    read_there : request_refusal v.settings.frontends s ≡ refusal.Passed
+    read_there : request_refusal v.settings.frontends s ≡ None
     read_there = rw ((sweeping_set clock x.satbox g.whole).settings, g.set) read
 
     some : kept.number ≡ 0 → ⊥

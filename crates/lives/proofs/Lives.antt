@@ -10,6 +10,7 @@ use Prim.Native.Nat.{ℕ, ◌+◌, ◌*◌, ◌%◌, ◌≤◌, ◌<◌, max}
 use native.Mathlib.Omega.{arith}
 use lib.Dec.{eqb}
 use lib.ListN.{length, take, get_or}
+use Rattle.std.specs.Prelude.{None}
 use Rattle.scan.specs.Lists.{all}
 use Rattle.aim.specs.declared.Method.TheVariants.{Teardown}
 use Rattle.refusals.specs.declared.Refusal.TheVariants as refusal
@@ -192,7 +193,7 @@ module _ (settings : Settings) (j : List ℕ) (cs : List Call) where
       kept = session_at (sweeping clock x.satbox).satbox seat
 
       module _ (calls : all (is_call settings.size) (naming ∷ ds) ≡ true) (done : (live naming x).outcome ≡ Ok tt)
-          (read : request_refusal settings.frontends s ≡ refusal.Passed) (named : seat < 32) where
+          (read : request_refusal settings.frontends s ≡ None) (named : seat < 32) where
         -- is not closed for its age before the clock used plus 60: each record of those others that says so (`is_time_out`) has that clock or a later one,
         pub kept_is_not_timed_out : (i : ℕ) (past : Record) → i < length (records_of ds y) → is_time_out kept.number (get_or (records_of ds y) i past) ≡ true
             → max x.satbox.clock clock + 60 ≤ (get_or (records_of ds y) i past).clock
@@ -222,7 +223,7 @@ module _ (settings : Settings) (j : List ℕ) (cs : List Call) where
       abbrev u : SatBox
       u = (sweeping clock x.satbox).satbox
 
-      module _ (read : request_refusal settings.frontends s ≡ refusal.Passed) (else : PassesElse u (asked_of settings.frontends s) (lists_of s)) where
+      module _ (read : request_refusal settings.frontends s ≡ None) (else : PassesElse u (asked_of settings.frontends s) (lists_of s)) where
         -- is refused for journal room, step 18, exactly if bytes held, plus 16 for each open session, plus 32, exceed C; both directions
         pub refused_for_room : ((requested s clock address draw x.satbox).case ≡ Full) ↔ (settings.size < u.held + record_size * open_count u + 2 * record_size)
         unfolding requested

@@ -7,6 +7,7 @@ use Prim.Native.Nat.{ℕ, ◌+◌, ◌*◌, ◌≤◌, ◌<◌}
 use native.Mathlib.Decide.{dec_lt}
 use native.Mathlib.Omega.{arith}
 use borrow.Author.Tests.{ne_eqb, eq-eqb, lt-leb, le-leb, not-true}
+use Rattle.std.specs.Prelude.{None}
 use Rattle.scan.proofs.Bools.{never, and_both, by_cases, Same, same, other, sames}
 use Rattle.aim.specs.declared.Method.{Method}
 use Rattle.aim.specs.declared.Method.TheVariants.{Options, Setup, Play, Teardown, Other}
@@ -66,7 +67,7 @@ module _ (t : SatBox) (a : Asked) (l : Lists) (p : PassesElse t a l) where
 full_not_passed : {c : Case} → c ≡ Full → c ≡ Passed → ⊥
 full_not_passed p q = let z : ◌≡◌ {A = ℕ} 0 1 = cc in omega arith
 
-module _ (s : List ℕ) (address draw : ℕ) (t : SatBox) (read : request_refusal t.settings.frontends s ≡ refusal.Passed) (p : PassesElse t (asked_of t.settings.frontends s) (lists_of s)) where
+module _ (s : List ℕ) (address draw : ℕ) (t : SatBox) (read : request_refusal t.settings.frontends s ≡ None) (p : PassesElse t (asked_of t.settings.frontends s) (lists_of s)) where
   answered_is : answered s address draw t ≡ served t (asked_of t.settings.frontends s) (lists_of s) (client_of address draw (asked_of t.settings.frontends s))
   unfolding answered
   answered_is =
@@ -89,14 +90,14 @@ module _ (s : List ℕ) (address draw : ℕ) (t : SatBox) (read : request_refusa
 
 -- the same of a swept box t whose frontends and journal's size are known
 module _ (settings : Settings) (s : List ℕ) (address draw : ℕ) (t : SatBox) (e : t.settings ≡ settings) where
-  pub refused_exactly : request_refusal settings.frontends s ≡ refusal.Passed → PassesElse t (asked_of settings.frontends s) (lists_of s)
+  pub refused_exactly : request_refusal settings.frontends s ≡ None → PassesElse t (asked_of settings.frontends s) (lists_of s)
       → ((answered s address draw t).case ≡ Full) ↔ (settings.size < t.held + 16 * open_count t + 32)
   refused_exactly =
-      subst (λ (r : Settings). request_refusal r.frontends s ≡ refusal.Passed → PassesElse t (asked_of r.frontends s) (lists_of s) → ((answered s address draw t).case ≡ Full) ↔ (r.size < t.held + 16 * open_count t + 32)) e
+      subst (λ (r : Settings). request_refusal r.frontends s ≡ None → PassesElse t (asked_of r.frontends s) (lists_of s) → ((answered s address draw t).case ≡ Full) ↔ (r.size < t.held + 16 * open_count t + 32)) e
       (room_exactly s address draw t)
 
-  pub passed_exactly : request_refusal settings.frontends s ≡ refusal.Passed → PassesElse t (asked_of settings.frontends s) (lists_of s)
+  pub passed_exactly : request_refusal settings.frontends s ≡ None → PassesElse t (asked_of settings.frontends s) (lists_of s)
       → t.held + 16 * open_count t + 32 ≤ settings.size → (answered s address draw t).case ≡ Passed
   passed_exactly =
-      subst (λ (r : Settings). request_refusal r.frontends s ≡ refusal.Passed → PassesElse t (asked_of r.frontends s) (lists_of s) → t.held + 16 * open_count t + 32 ≤ r.size → (answered s address draw t).case ≡ Passed) e
+      subst (λ (r : Settings). request_refusal r.frontends s ≡ None → PassesElse t (asked_of r.frontends s) (lists_of s) → t.held + 16 * open_count t + 32 ≤ r.size → (answered s address draw t).case ≡ Passed) e
       (with_room s address draw t)

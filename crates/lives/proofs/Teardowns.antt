@@ -6,6 +6,7 @@ use mathlib.Core.Logic.{◌⊎◌, inl, inr}
 use Prim.Native.Nat.{ℕ}
 use native.Mathlib.Omega.{arith}
 use borrow.Author.Tests.{eq-eqb, ne_eqb, lt-ltb}
+use Rattle.steps.proofs.ReplyLaws.{read_passes}
 use Rattle.scan.proofs.Bools.{never, and_both, Case, is, isnt, case}
 use Rattle.aim.specs.declared.Method.{Method}
 use Rattle.aim.specs.declared.Method.TheVariants.{Options, Setup, Play, Teardown, Other}
@@ -72,7 +73,7 @@ answered_torn s address draw t w e =
     (λ r p.
     let z = served_torn (kept a t) a (lists_of s) (client_of address draw a) (kept_whole a t w) e p in
     record { is = z.is ∙ kept_closes a t 1; closable = named_closable t w a (sight_of t a) refl (lt-ltb (seat a t) 32 (rw (kept_place a t a.session) at z.closable.below)) })
-    (λ n p. never p n)
+    (λ n p. never p (read_passes _ ∙ n))
 
 module _ (s : List ℕ) (address draw : ℕ) (t : SatBox) (w : Whole t) (tears : method_of s ≡ Teardown) (passed : is_passed (answered s address draw t).case ≡ true) where
   torn : Torn t (place_named_by s t) (answered s address draw t).did

@@ -1,5 +1,5 @@
 -- Statements 4 and 5: whom a sweep and a TEARDOWN close, who stays and is kept, and an opening that only the journal's room can refuse. Assumes nothing.
-use Rattle.std.specs.Prelude.{ℕ, zero, suc, max, ◌≡◌, Bool, not, cond, ◌&&◌, ◌||◌, true, false, List, [], ◌∷◌, ◌++◌, eqb}
+use Rattle.std.specs.Prelude.{ℕ, zero, suc, max, ◌≡◌, Bool, not, cond, ◌&&◌, ◌||◌, true, false, List, [], ◌∷◌, ◌++◌, eqb, None}
 use Rattle.scan.specs.Lists.{first}
 use Rattle.journal.specs.declared.Record.{Record}
 use Rattle.lines.specs.Lines.{header_lines}
@@ -85,7 +85,7 @@ place_named_by s t = place_named (session_of (values_of 1 (header_lines s))) t
 -- a call of a box with that many frontends keeps whoever has the number n, order 3: it is a request that steps 1 to 10 let through, and its Session header
 -- has that number. Where an open session has it, step 11 lets the request through
 pub data KeepsAlive (frontends n : ℕ) : Call → Type 0 where
-  naming : {s : List ℕ} {clock address draw : ℕ} {b : List ℕ} {l : Lent} → request_refusal frontends s ≡ refusal.Passed
+  naming : {s : List ℕ} {clock address draw : ℕ} {b : List ℕ} {l : Lent} → request_refusal frontends s ≡ None
       → session_number (session_of (values_of 1 (header_lines s))) ≡ n → KeepsAlive frontends n (request s clock address draw b l)
 
 -- a call is "a request or a tick", given a clock: it "first closes expired sessions"

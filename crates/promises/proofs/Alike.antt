@@ -1,13 +1,12 @@
 -- Contracts that are records: two values that meet one are equal. Assumes nothing.
 use mathlib.Core.Path.{◌≡◌, refl, sym, ap, ◌∙◌}
-use mathlib.Core.Bool.{true, false}
+use mathlib.Core.Bool.{true, false, Bool}
 use mathlib.Core.List.{List}
 use Prim.Native.Nat.{ℕ, ◌+◌, ◌<◌}
 use native.Mathlib.Omega.{arith}
 use lib.Dec.{eqb}
 use lib.ListN.{length, get_or}
 use lib.Seq.{ext_get_or}
-use borrow.Author.Tests.{eqb-false}
 use Rattle.scan.specs.Found.{Holds, nowhere, Trimmed}
 use Rattle.scan.specs.declared.Span.{Span}
 use Rattle.scan.proofs.Bools.{never, Case, is, isnt, case}
@@ -30,7 +29,7 @@ use Rattle.refusals.specs.Refusals.{is_read, reading_rule}
 use Rattle.aim.specs.declared.Aim.{Aim}
 use Rattle.aim.specs.declared.Method.{Method as Methods}
 use Rattle.refusals.specs.declared.Refusal.{Refusal}
-use Rattle.refusals.specs.declared.Refusal.TheVariants.{Passed, Layout, CSeq, RequestLine, HeaderTwice, Version, Require, Method, UriLong, UriForm, QueryUntaken, QueryForm, PidsClash, PidsUnstreamed, Value, NoStream}
+use Rattle.refusals.specs.declared.Refusal.TheVariants.{Layout, CSeq, RequestLine, HeaderTwice, Version, Require, Method, UriLong, UriForm, QueryUntaken, QueryForm, PidsClash, PidsUnstreamed, Value, NoStream}
 use Rattle.reader.specs.Request.{head_refusal}
 use Rattle.reader.specs.Heads.{RequestIs}
 use Rattle.reader.specs.declared.Request.{Request}
@@ -105,7 +104,7 @@ uri_same u x y = option_same (UriIs u) x y (λ a p n. never p.form n) both
 -- WHAT A URI ASKS
 module _ (frontends : ℕ) (m : Methods) (u : List ℕ) where
   passes_only : {a : Aim} {e : Refusal} → AimIs frontends m u a → Refuses frontends m u e → ⊥
-  passes_only p f = never (ap is_read p.passes) (sym (ap is_read f.0) ∙ f.1)
+  passes_only p f = let z : None ≡ Some _ = sym p.passes ∙ f in cc
 
   both_aims : (a b : Aim) → AimIs frontends m u a → AimIs frontends m u b → a ≡ b
   both_aims a b p q =
@@ -120,39 +119,47 @@ module _ (frontends : ℕ) (m : Methods) (u : List ℕ) where
   aim_same (Ok a) (Ok b) p q = ap Ok (both_aims a b p q)
   aim_same (Ok a) (Err f) p q = absurd (passes_only p q)
   aim_same (Err e) (Ok b) p q = absurd (passes_only q p)
-  aim_same (Err e) (Err f) p q = ap Err (p.0 ∙ sym q.0)
+  aim_same (Err e) (Err f) p q = let z : Some e ≡ Some f = sym p ∙ q in cc
 
 -- A REQUEST; its arrays are as long
--- the case of step 5, and no other
-required : (r : Refusal) → eqb (reading_rule r).0 5 ≡ true → r ≡ Require
-required Require e = refl
-required Passed e = never refl (sym e)
-required Layout e = never refl (sym e)
-required CSeq e = never refl (sym e)
-required RequestLine e = never refl (sym e)
-required HeaderTwice e = never refl (sym e)
-required Version e = never refl (sym e)
-required Method e = never refl (sym e)
-required UriLong e = never refl (sym e)
-required UriForm e = never refl (sym e)
-required QueryUntaken e = never refl (sym e)
-required QueryForm e = never refl (sym e)
-required PidsClash e = never refl (sym e)
-required PidsUnstreamed e = never refl (sym e)
-required Value e = never refl (sym e)
-required NoStream e = never refl (sym e)
+-- whether it is refused by a case of step 5
+abbrev is_fifth : Option Refusal → Bool
+is_fifth None = false
+is_fifth (Some x) = eqb (reading_rule x).0 5
+
+-- which is one alone
+required : (r : Option Refusal) → is_fifth r ≡ true → r ≡ Some Require
+required None e = never e refl
+required (Some x) e = by x e
+  where
+    by : (x : Refusal) → eqb (reading_rule x).0 5 ≡ true → Some x ≡ Some Require
+    by Require e = refl
+    by Layout e = never e refl
+    by CSeq e = never e refl
+    by RequestLine e = never e refl
+    by HeaderTwice e = never e refl
+    by Version e = never e refl
+    by Method e = never e refl
+    by UriLong e = never e refl
+    by UriForm e = never e refl
+    by QueryUntaken e = never e refl
+    by QueryForm e = never e refl
+    by PidsClash e = never e refl
+    by PidsUnstreamed e = never e refl
+    by Value e = never e refl
+    by NoStream e = never e refl
 
 module _ (frontends : ℕ) (s : List ℕ) (x y : Request) (p : RequestIs frontends s x) (q : RequestIs frontends s y)
     (n : length x.codes ≡ length y.codes) (o : length x.spans ≡ length y.spans) where
   same_require : x.require ≡ y.require
-  same_require = by (case (eqb (reading_rule (head_refusal s)).0 5))
+  same_require = by (case (is_fifth (head_refusal s)))
     where
-      by : Case (eqb (reading_rule (head_refusal s)).0 5) → x.require ≡ y.require
+      by : Case (is_fifth (head_refusal s)) → x.require ≡ y.require
       by (is t) =
           let e = required (head_refusal s) t in
           span_same (p.require_starts e ∙ sym (q.require_starts e)) (p.require e) (q.require e)
       by (isnt z) =
-          let d : head_refusal s ≡ Require → ⊥ = λ e. eqb-false _ _ z (ap (λ r. (reading_rule r).0) e) in
+          let d : head_refusal s ≡ Some Require → ⊥ = λ e. never (ap is_fifth e) z in
           p.unrequired d ∙ sym (q.unrequired d)
 
   pub request_same : x ≡ y
@@ -166,8 +173,8 @@ module _ (frontends : ℕ) (s : List ℕ) (x y : Request) (p : RequestIs fronten
 
       by : Case (is_read x.refusal) → x ≡ y
       by (is t) =
-          let e : x.refusal ≡ Passed = passed_is x.refusal t in
-          let f : y.refusal ≡ Passed = sym refusals ∙ e in
+          let e : x.refusal ≡ None = passed_is x.refusal t in
+          let f : y.refusal ≡ None = sym refusals ∙ e in
           let a : x.codes ≡ y.codes = ext_get_or 0 x.codes y.codes n (λ k _. p.codes e k ∙ sym (q.codes f k)) in
           let b : x.spans ≡ y.spans = ext_get_or nowhere x.spans y.spans o (λ k _. span_same (p.starts e k ∙ sym (q.starts f k)) (p.spans e k) (q.spans f k)) in
           let c : x.method ≡ y.method = p.method e ∙ sym (q.method f) in
@@ -189,5 +196,8 @@ module _ (frontends : ℕ) (s : List ℕ) (x y : Request) (p : RequestIs fronten
             session = j i;
             transport = k i;
           }
-      by (isnt z) =
-          p.refused z ∙ rw (refusals, cseqs, same_require) (sym (q.refused (rw refusals at z)))
+      by (isnt z) = refused x.refusal refl z
+        where
+          refused : (r : Option Refusal) → x.refusal ≡ r → is_read r ≡ false → x ≡ y
+          refused None e n = never refl n
+          refused (Some k) e n = p.refused k e ∙ rw (cseqs, same_require) (sym (q.refused k (sym refusals ∙ e)))

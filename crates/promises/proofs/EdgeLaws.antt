@@ -7,15 +7,14 @@ use mathlib.Core.List.{List, [], ◌∷◌, map}
 use native.Mathlib.Omega.{arith}
 use lib.Dec.{eqb}
 use borrow.Author.Tests.{not-true, ne_eqb, eqb-true}
+use Rattle.std.specs.Prelude.{Some, None}
 use Rattle.scan.specs.Lists.{all}
 use Rattle.scan.proofs.Bools.{Case as Test, case, is, isnt, Same, sames, same, other, and_both, or_second}
 use Rattle.tuning.specs.Values.{value_of}
 use Rattle.aim.specs.Query.{parts_of, attribute_in}
 use Rattle.aim.specs.Found.{code_among, part_value, is_within}
 use Rattle.aim.specs.Aim.{uri_refusal}
-use Rattle.refusals.specs.Refusals.{is_read}
 use Rattle.refusals.specs.declared.Refusal.{Refusal}
-use Rattle.refusals.specs.declared.Refusal.TheVariants.{Passed}
 use Rattle.reader.specs.Request.{uri_of, request_refusal}
 use Rattle.table.specs.Table.{any, has_number}
 use Rattle.finding.specs.Finding.{drawn}
@@ -103,13 +102,12 @@ module _ (frontends : ℕ) where
 -- what the reading of a request comes to on a box with two frontends: a refusal
 pub record RefusedAs (s : List ℕ) (r : Refusal) : Type 0 where
   pub no_fe : gives_no_fe s ≡ true
-  pub refusal : request_refusal 2 s ≡ r
-  pub refuses : is_read r ≡ false
+  pub refusal : request_refusal 2 s ≡ Some r
 
 -- or what it asks
 pub record ReadsAs (s : List ℕ) (a : Asked) (l : Lists) : Type 0 where
   pub no_fe : gives_no_fe s ≡ true
-  pub passed : request_refusal 2 s ≡ Passed
+  pub passed : request_refusal 2 s ≡ None
   pub asked : asked_of 2 s ≡ a
   pub lists : lists_of s ≡ l
 
@@ -117,7 +115,7 @@ pub record ReadsAs (s : List ℕ) (a : Asked) (l : Lists) : Type 0 where
 module _ (clock address draw : ℕ) (t : SatBox) {s : List ℕ} where
   pub refused_alike : {r : Refusal} → RefusedAs s r → (requested s clock address draw t).case ≡ Reading r
   unfolding requested answered
-  refused_alike d = rw (refusal_alike (sweeping clock t).satbox.settings.frontends s d.no_fe, d.refusal, d.refuses)
+  refused_alike d = rw (refusal_alike (sweeping clock t).satbox.settings.frontends s d.no_fe, d.refusal)
 
   module _ {a : Asked} {l : Lists} {c : Case} (d : ReadsAs s a l) (k : (u : SatBox) (client : Client) → (served u a l client).case ≡ c) where
     pub served_alike : (requested s clock address draw t).case ≡ c

@@ -235,7 +235,7 @@ pub record P7 : Type 0 where
 
 pid_refused : RefusedAs (setup (text "pids=8192")) Outside
 unfolding reading
-pid_refused = record { no_fe = refl; refusal = refl; refuses = refl }
+pid_refused = record { no_fe = refl; refusal = refl }
 
 pub p7 : P7
 unfolding meanings
@@ -248,7 +248,7 @@ pub record P8 : Type 0 where
 
 freq_refused : RefusedAs (setup (text "freq=12750.01")) Outside
 unfolding reading
-freq_refused = record { no_fe = refl; refusal = refl; refuses = refl }
+freq_refused = record { no_fe = refl; refusal = refl }
 
 pub p8 : P8
 unfolding meanings

@@ -6,9 +6,9 @@ use mathlib.Core.Path.{◌≡◌, refl, sym, ◌∙◌, ap}
 use mathlib.Core.List.{List, [], ◌∷◌}
 use Prim.Native.Nat.{ℕ, ◌<◌}
 use lib.ListN.{replicate}
+use Rattle.std.specs.Prelude.{None}
 use Rattle.scan.specs.Text.{text, ◌&◌}
 use Rattle.aim.specs.declared.Method.TheVariants.{Options, Teardown}
-use Rattle.refusals.specs.declared.Refusal.TheVariants as refusal
 use Rattle.reader.specs.Request.{method_of, request_refusal}
 use Rattle.stream.specs.Values.{are_complete}
 use Rattle.table.specs.Table.{session_at, stream_of}
@@ -26,7 +26,7 @@ use Rattle.promises.proofs.Asks.{example, box, home, verdict, ask, after}
 use Rattle.promises.proofs.Edges.{meanings}
 use Rattle.promises.proofs.LetThrough.{options_table, teardown_table}
 
-module _ (s : List ℕ) (address draw : ℕ) (t : SatBox) (read : request_refusal t.settings.frontends s ≡ refusal.Passed) where
+module _ (s : List ℕ) (address draw : ℕ) (t : SatBox) (read : request_refusal t.settings.frontends s ≡ None) where
   abbrev a : Asked
   a = asked_of t.settings.frontends s
 

@@ -7,8 +7,8 @@ use Prim.Native.Nat.{ℕ, ◌<◌}
 use native.Mathlib.Omega.{arith}
 use lib.Seq.{get_or-set_same}
 use borrow.Author.Tests.{ltb-true}
+use Rattle.std.specs.Prelude.{None}
 use Rattle.scan.proofs.Bools.{cond_keeps, Case as Test, is, isnt, case}
-use Rattle.refusals.specs.declared.Refusal.TheVariants as refusal
 use Rattle.reader.specs.Request.{request_refusal}
 use Rattle.table.specs.Table.{no_session, session_at}
 use Rattle.finding.specs.Finding.{choice}
@@ -106,7 +106,7 @@ served_case t a l client =
     (λ y. grant_passes a.method t a l client ∙ sym (unread_passed (case_of t a l) (case_unread t a l) y)) (λ n. refl)
 
 -- A REQUEST THAT STEPS 1 TO 10 LET THROUGH comes to the case that steps 11 to 18 give it on the table as it was
-pub answered_case : (s : List ℕ) (address draw : ℕ) (t : SatBox) → request_refusal t.settings.frontends s ≡ refusal.Passed
+pub answered_case : (s : List ℕ) (address draw : ℕ) (t : SatBox) → request_refusal t.settings.frontends s ≡ None
     → (answered s address draw t).case ≡ case_of t (asked_of t.settings.frontends s) (lists_of s)
 unfolding answered
 answered_case s address draw t read =

@@ -7,6 +7,7 @@ use Prim.Native.Nat.{ℕ, ◌<◌}
 use lib.Dec.{ltb}
 use lib.ListN.{length, get_or}
 use borrow.Author.Tests.{lt-ltb, eq-eqb, ne_eqb}
+use Rattle.std.specs.Prelude.{None, Option, Some}
 use Rattle.scan.proofs.Bools.{never, Case as Test, is, isnt, case}
 use Rattle.target.specs.Uri.{is_uri, has_query}
 use Rattle.aim.specs.Aim.{uri_refusal}
@@ -31,11 +32,11 @@ use Rattle.aim.proofs.AimLaws.{unqueried}
 use Rattle.tuning.proofs.Words.{value_none}
 
 -- what no refusal of a chain stops
-goes_on : (b : Bool) (c d : Refusal) → reading.is_read c ≡ false → (b gives c or d) ≡ refusal.Passed → (b ≡ false) × (d ≡ refusal.Passed)
-goes_on true c d n e = never (ap reading.is_read e) n
-goes_on false c d n e = (refl, e)
+goes_on : (b : Bool) (c : Refusal) (d : Option Refusal) → (b gives Some c or d) ≡ None → (b ≡ false) × (d ≡ None)
+goes_on true c d e = cc
+goes_on false c d e = (refl, e)
 
-module _ (s : List ℕ) (address draw : ℕ) (t : SatBox) (read : request_refusal t.settings.frontends s ≡ refusal.Passed) where
+module _ (s : List ℕ) (address draw : ℕ) (t : SatBox) (read : request_refusal t.settings.frontends s ≡ None) where
   abbrev a : Asked
   a = asked_of t.settings.frontends s
 
@@ -43,20 +44,20 @@ module _ (s : List ℕ) (address draw : ℕ) (t : SatBox) (read : request_refusa
   place = place_named a.session t
 
   -- step 8: an OPTIONS and a TEARDOWN have no query
-  uri_read : uri_refusal t.settings.frontends (method_of s) (uri_of s) ≡ refusal.Passed
+  uri_read : uri_refusal t.settings.frontends (method_of s) (uri_of s) ≡ None
   unfolding request_refusal
   uri_read = by (case (reading.is_read (head_refusal s)))
     where
-      by : Test (reading.is_read (head_refusal s)) → uri_refusal t.settings.frontends (method_of s) (uri_of s) ≡ refusal.Passed
+      by : Test (reading.is_read (head_refusal s)) → uri_refusal t.settings.frontends (method_of s) (uri_of s) ≡ None
       by (is y) = rw y at read
       by (isnt n) = never (ap reading.is_read (rw n at read)) n
 
   untaken : has_query (uri_of s) && takes_no_query (method_of s) ≡ false
   unfolding uri_refusal
   untaken =
-      let long = goes_on (ltb 1024 (length (uri_of s))) refusal.UriLong _ refl uri_read in
-      let form = goes_on (not (is_uri (uri_of s))) refusal.UriForm _ refl long.1 in
-      (goes_on (has_query (uri_of s) && takes_no_query (method_of s)) refusal.QueryUntaken _ refl form.1).0
+      let long = goes_on (ltb 1024 (length (uri_of s))) refusal.UriLong _ uri_read in
+      let form = goes_on (not (is_uri (uri_of s))) refusal.UriForm _ long.1 in
+      (goes_on (has_query (uri_of s) && takes_no_query (method_of s)) refusal.QueryUntaken _ form.1).0
 
   module _ (takes : takes_no_query (method_of s) ≡ true) where
     unasked : has_query (uri_of s) ≡ false

@@ -10,11 +10,11 @@ use lib.Dec.{eqb}
 use lib.ListN.{length, get_or}
 use lib.Seq.{get_or-set_same}
 use borrow.Author.Tests.{ne_eqb, eq-eqb, ltb-true, lt-ltb, le-ltb}
+use Rattle.std.specs.Prelude.{None}
 use Rattle.scan.specs.Lists.{first}
 use Rattle.scan.proofs.Bools.{and_both}
 use Rattle.aim.specs.declared.Method.{Method}
 use Rattle.aim.specs.declared.Method.TheVariants.{Options, Setup, Play, Teardown, Other}
-use Rattle.refusals.specs.declared.Refusal.TheVariants as refusal
 use Rattle.reader.specs.Request.{method_of, request_refusal}
 use Rattle.stream.specs.Streams.{no_stream, past_stream, blank}
 use Rattle.stream.specs.declared.Stream.{Stream}
@@ -105,7 +105,7 @@ module _ (s : List ℕ) (address draw : ℕ) (t : SatBox) where
       keeps = rw (kept_named a t h) (replaced_quietly t w h _ old.stream)
 
     -- A REQUEST THAT A STEP AFTER THE 11TH REFUSES sets the last time of the session that it names, order 3; the rest of it stays, and its stream
-    pub refused_keeps : request_refusal t.settings.frontends s ≡ refusal.Passed → is_passed (answered s address draw t).case ≡ false → place < 32
+    pub refused_keeps : request_refusal t.settings.frontends s ≡ None → is_passed (answered s address draw t).case ≡ false → place < 32
         → Quietly t u place (but t.clock old.port old.playing old) old.stream (stream_of t old.stream)
     refused_keeps read n h =
         let left_is : u ≡ k = ap (λ (d : Did). d.satbox) (answered_still s address draw t n) ∙ rw read in

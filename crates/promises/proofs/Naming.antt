@@ -4,10 +4,10 @@ use mathlib.Core.Path.{◌≡◌, refl}
 use mathlib.Core.Bool.{true}
 use mathlib.Core.List.{List}
 use Prim.Native.Nat.{ℕ, ◌<◌}
+use Rattle.std.specs.Prelude.{None}
 use Rattle.scan.proofs.Bools.{Case as Test, is, isnt, case}
 use Rattle.aim.specs.declared.Method.{Method}
 use Rattle.aim.specs.declared.Method.TheVariants.{Options, Setup, Play, Teardown, Other}
-use Rattle.refusals.specs.declared.Refusal.TheVariants as refusal
 use Rattle.reader.specs.Request.{method_of, request_refusal}
 use Rattle.stream.specs.declared.Stream.{Stream}
 use Rattle.table.specs.Table.{session_at}
@@ -35,7 +35,7 @@ module _ (s : List ℕ) (address draw : ℕ) (t : SatBox) (w : Whole t) where
   u = (answered s address draw t).did.satbox
 
   -- "Every request that passes step 11 and names an open session sets its last time", but a TEARDOWN that is answered 200: that closes it
-  pub names_keeps : request_refusal t.settings.frontends s ≡ refusal.Passed → place < 32
+  pub names_keeps : request_refusal t.settings.frontends s ≡ None → place < 32
       → (method_of s ≡ Teardown → is_passed (answered s address draw t).case ≡ true → ⊥) → Keeps t u place
   names_keeps read h untorn = by (case (is_passed (answered s address draw t).case))
     where

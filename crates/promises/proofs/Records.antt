@@ -7,6 +7,7 @@ use Prim.Native.Nat.{ℕ}
 use lib.ListN.{set}
 use lib.Seq.{get_or-set_same}
 use borrow.Author.Tests.{ne_eqb, eq-eqb}
+use Rattle.steps.proofs.ReplyLaws.{read_passes}
 use Rattle.scan.specs.Lists.{first}
 use Rattle.scan.proofs.Bools.{never}
 use Rattle.aim.specs.declared.Method.{Method}
@@ -147,7 +148,7 @@ module _ (s : List ℕ) (address draw : ℕ) (t : SatBox) where
   -- a request that is granted was read
   pub answered_is : is_passed (answered s address draw t).case ≡ true → answered s address draw t ≡ serves
   answered_is =
-      answered_by s address draw t (λ (x : Serving). is_passed x.case ≡ true → x ≡ serves) (λ e y. refl) (λ e y. never y e)
+      answered_by s address draw t (λ (x : Serving). is_passed x.case ≡ true → x ≡ serves) (λ e y. refl) (λ e y. never y (read_passes _ ∙ e))
 
   silent : serves.did.records ≡ [] → (answered s address draw t).did.records ≡ []
   silent none = answered_by s address draw t (λ (x : Serving). x.did.records ≡ []) (λ e. none) (λ e. refl)

@@ -4,15 +4,14 @@ use mathlib.Core.Path.{◌≡◌, refl}
 use mathlib.Core.Bool.{false, cond}
 use mathlib.Core.List.{List}
 use Prim.Native.Nat.{ℕ, ◌<◌}
+use Rattle.std.specs.Prelude.{None}
 use Rattle.scan.proofs.Bools.{cond_keeps}
 use Rattle.refusals.specs.Refusals as reading
-use Rattle.refusals.specs.declared.Refusal.TheVariants as refusal
 use Rattle.reader.specs.Request.{request_refusal}
 use Rattle.reader.proofs.RequestLaws.{passed_is}
 use Rattle.table.specs.declared.SatBox.{SatBox}
 use Rattle.steps.specs.Sights.{asked_of, lists_of}
-use Rattle.steps.specs.Steps.{is_passed}
-use Rattle.steps.specs.declared.cases.Case.TheVariants.{Reading}
+use Rattle.steps.specs.Steps.{is_passed, read_case}
 use Rattle.closings.specs.Closing.{nothing, sweeping}
 use Rattle.serving.specs.Serving.{kept, Serving, served, denied, client_of, answered}
 use Rattle.satbox.specs.Calls.{request_outcome, requested, replied}
@@ -23,15 +22,15 @@ use Rattle.promises.proofs.Serving.{Fit, served_whole, denied_still}
 
 -- what holds where steps 1 to 10 let a request through, and where one of them refuses it, holds of every request
 pub answered_by : (s : List ℕ) (address draw : ℕ) (t : SatBox) (P : Serving → Type 0)
-    → (request_refusal t.settings.frontends s ≡ refusal.Passed → P (let a = asked_of t.settings.frontends s in served (kept a t) a (lists_of s) (client_of address draw a)))
-    → (reading.is_read (request_refusal t.settings.frontends s) ≡ false → P (denied t (Reading (request_refusal t.settings.frontends s)))) → P (answered s address draw t)
+    → (request_refusal t.settings.frontends s ≡ None → P (let a = asked_of t.settings.frontends s in served (kept a t) a (lists_of s) (client_of address draw a)))
+    → (reading.is_read (request_refusal t.settings.frontends s) ≡ false → P (denied t (read_case (request_refusal t.settings.frontends s)))) → P (answered s address draw t)
 unfolding answered
 answered_by s address draw t P f g =
     cond_keeps P (reading.is_read (request_refusal t.settings.frontends s)) _ _ (λ e. f (passed_is (request_refusal t.settings.frontends s) e)) g
 
 -- what steps 1 to 10 let through has values and a port as a table may hold them; proved in `Reading`
 abbrev pub Reads : Type 0
-Reads = (frontends : ℕ) (s : List ℕ) → request_refusal frontends s ≡ refusal.Passed → Fit (asked_of frontends s)
+Reads = (frontends : ℕ) (s : List ℕ) → request_refusal frontends s ≡ None → Fit (asked_of frontends s)
 
 -- A REQUEST KEEPS THE TABLE WELL FORMED, whatever its bytes s, with any address and any 32-bit draw
 module _ (reads : Reads) (s : List ℕ) (address draw : ℕ) (short : draw < 4294967296) where

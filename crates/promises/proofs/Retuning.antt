@@ -9,6 +9,7 @@ use lib.Dec.{eqb}
 use lib.ListN.{set}
 use lib.Seq.{get_or-set_same, get_or-set_other}
 use borrow.Author.Tests.{ne_eqb, eq-eqb, lt-ltb}
+use Rattle.steps.proofs.ReplyLaws.{read_passes}
 use Rattle.scan.proofs.Bools.{never}
 use Rattle.aim.specs.declared.Method.{Method}
 use Rattle.aim.specs.declared.Method.TheVariants.{Options, Setup, Play, Teardown, Other}
@@ -217,7 +218,7 @@ module _ (s : List ℕ) (address draw : ℕ) (t : SatBox) where
       granted_by : (P : Serving → Type 0) → (Untested (sight_of k a) → Changing k a l → P (grant a.method k a l (client_of address draw a))) → P (answered s address draw t)
       granted_by P f =
           answered_by s address draw t (λ x. is_passed x.case ≡ true → P x)
-          (λ r. served_by k a l (client_of address draw a) (λ x. is_passed x.case ≡ true → P x) (λ p q y. f p q) (λ n y. never y n)) (λ n y. never y n) passed
+          (λ r. served_by k a l (client_of address draw a) (λ x. is_passed x.case ≡ true → P x) (λ p q y. f p q) (λ n y. never y n)) (λ n y. never y (read_passes _ ∙ n)) passed
 
       pub untested : Untested (sight_of k a)
       untested = granted_by (λ x. Untested (sight_of k a)) (λ p q. p)

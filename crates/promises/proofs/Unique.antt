@@ -182,9 +182,6 @@ refusals_step κs a x y v w = same
 pub refusals_status : Unique refusals_contracts.status.ended refusals.status.Reads.Post
 refusals_status κs a x y v w = same
 
-pub refusals_is_passed : Unique refusals_contracts.is_passed.ended refusals.is_passed.Reads.Post
-refusals_is_passed κs a x y v w = same
-
 pub aim_read_aim : Unique aim_contracts.read_aim.ended aim.read_aim.Reads.Post
 aim_read_aim κs a x y v w p q = (aim_same a.1.1.0 a.0 a.1.0.now x y p q, refl)
 

@@ -21,7 +21,7 @@ use Rattle.digits.proofs.Limits.{are_digits_law}
 use Rattle.lines.specs.Lines.{is_laid_out, request_line, header_lines}
 use Rattle.lines.specs.Headers.{values_of}
 use Rattle.lines.specs.Laid.{first_value, times_of, place_of, first_seen, unseen, SeenIs, value_start, LinesAre}
-use Rattle.std.specs.Prelude.{Some, None, Option, None, is_some}
+use Rattle.std.specs.Prelude.{Some, None, Option, is_some}
 use Rattle.lines.specs.declared.Seen.{Seen}
 use Rattle.lines.specs.declared.Seen.TheVariants.{Never, Once, Again}
 use Rattle.lines.specs.declared.Lines.{Lines}
@@ -35,8 +35,8 @@ use Rattle.aim.specs.Found.{AimIs, Refuses}
 use Rattle.refusals.specs.Refusals.{is_read, reading_rule}
 use Rattle.reader.specs.Request.{cseq_most, cseq_limit, cseq_of, method_of, uri_of, head_refusal, request_refusal}
 use Rattle.refusals.specs.declared.Refusal.{Refusal}
-use Rattle.refusals.specs.declared.Refusal.TheVariants.{Passed, Layout, CSeq, RequestLine, HeaderTwice, Version, Require, UriLong, UriForm, QueryUntaken, QueryForm, PidsClash, PidsUnstreamed, NoStream}
-use Rattle.refusals.specs.declared.Refusal.TheVariants.{Method as OtherMethod, Value as Outside}
+use Rattle.refusals.specs.declared.Refusal.TheVariants.{Layout, CSeq, RequestLine, HeaderTwice, Version, Require}
+use Rattle.refusals.specs.declared.Refusal.TheVariants.{Method as OtherMethod}
 use Rattle.aim.specs.declared.Method.{Method}
 use Rattle.aim.specs.declared.Aim.{Aim}
 use Rattle.reader.specs.declared.Request.{Request}
@@ -151,12 +151,11 @@ module _ {s : List ℕ} {seen : Seen} {place : Span} (o : seen ≡ Once place) (
       }
 
 -- REFUSED REQUESTS
-pub request_refused : {frontends : ℕ} {s : List ℕ} {r : Request} {x : Refusal} {c v : Span} → is_read x ≡ false
-    → (head_refusal s ≡ Require → Holds s (first_value (values_of 3 (header_lines s))) v.start v.end × (v.start ≡ value_start 3 s))
-    → ((head_refusal s ≡ Require → ⊥) → v ≡ nowhere) → x ≡ request_refusal frontends s → CseqIs s c
+pub request_refused : {frontends : ℕ} {s : List ℕ} {r : Request} {x : Refusal} {c v : Span}
+    → (head_refusal s ≡ Some Require → Holds s (first_value (values_of 3 (header_lines s))) v.start v.end × (v.start ≡ value_start 3 s))
+    → ((head_refusal s ≡ Some Require → ⊥) → v ≡ nowhere) → Some x ≡ request_refusal frontends s → CseqIs s c
     → r ≡ refused_request x c v → RequestIs frontends s r
-request_refused {x = x} n k u e d q =
-    let no-pass : x ≡ Passed → ⊥ = λ y. let z : true ≡ false = ap is_read (sym y) ∙ n in let w : ◌≡◌ {A = ℕ} 0 1 = cc in omega arith in
+request_refused {x = x} k u e d q =
     rw q
     (record {
       refusal = e;
@@ -164,27 +163,26 @@ request_refused {x = x} n k u e d q =
       require = λ y. (k y).0;
       require_starts = λ y. (k y).1;
       unrequired = u;
-      method = λ y. absurd (no-pass y);
-      stream = λ y. absurd (no-pass y);
-      host = λ y. absurd (no-pass y);
-      query = λ y. absurd (no-pass y);
-      codes = λ y. absurd (no-pass y);
-      spans = λ y. absurd (no-pass y);
-      host_starts = λ y. absurd (no-pass y);
-      query_starts = λ y. absurd (no-pass y);
-      starts = λ y. absurd (no-pass y);
-      session = λ y. absurd (no-pass y);
-      transport = λ y. absurd (no-pass y);
-      refused = λ _. refl;
+      method = λ y. cc;
+      stream = λ y. cc;
+      host = λ y. cc;
+      query = λ y. cc;
+      codes = λ y. cc;
+      spans = λ y. cc;
+      host_starts = λ y. cc;
+      query_starts = λ y. cc;
+      starts = λ y. cc;
+      session = λ y. cc;
+      transport = λ y. cc;
+      refused = λ z y. let o : x ≡ z = cc in rw (← o);
     })
 
 -- by one of steps 1 to 6, and not by the fifth, which also hands out a value
-pub head_refused : {frontends : ℕ} {s : List ℕ} {r : Request} {x : Refusal} {c : Span} → head_refusal s ≡ x → is_read x ≡ false → ((reading_rule x).0 ≡ 5 → ⊥) → CseqIs s c
-    → r ≡ refused_request x c nowhere → RequestIs frontends s r
+pub head_refused : {frontends : ℕ} {s : List ℕ} {r : Request} {x : Refusal} {c : Span} → head_refusal s ≡ Some x → ((reading_rule x).0 ≡ 5 → ⊥) → CseqIs s c → r ≡ refused_request x c nowhere → RequestIs frontends s r
 unfolding request_refusal
-head_refused h n k d q = request_refused n (λ z. absurd (k (ap (λ r. (reading_rule r).0) (sym h ∙ z)))) (λ _. refl) (rw (h, n)) d q
+head_refused {x = x} h k d q = request_refused (λ z. let o : x ≡ Require = cc in absurd (k (ap (λ r. (reading_rule r).0) o))) (λ _. refl) (rw h) d q
 
-pub request_broken : (s : List ℕ) → is_laid_out s ≡ false → (head_refusal s ≡ Layout) × CseqIs s nowhere
+pub request_broken : (s : List ℕ) → is_laid_out s ≡ false → (head_refusal s ≡ Some Layout) × CseqIs s nowhere
 unfolding head_refusal cseq_of
 request_broken s b = (rw b, cseq_none s (rw b))
 
@@ -192,7 +190,7 @@ module _ (s : List ℕ) {l : Lines} (i : LinesAre s l) where
   pub cseq_seen : CseqSeen s (get_or l.headers 0 unseen)
   cseq_seen = record { whole = i.whole; values = i.headers 0 (omega arith); starts = i.starts 0 (omega arith) }
 
-  pub request_uncounted : is_empty (cseq_of s) ≡ true → head_refusal s ≡ CSeq
+  pub request_uncounted : is_empty (cseq_of s) ≡ true → head_refusal s ≡ Some CSeq
   unfolding head_refusal
   request_uncounted n = rw (i.whole, n)
 
@@ -202,7 +200,7 @@ pub request_passed : {frontends : ℕ} {s : List ℕ} {l : Lines} {c : Span} {m 
     → RequestIs frontends s (record {
       codes = a.codes;
       spans = a.spans;
-      refusal = Passed;
+      refusal = None;
       cseq = c;
       method = m;
       stream = a.stream;
@@ -231,31 +229,18 @@ request_passed {s = s} {a = a} p e q u =
       starts = λ _. p.starts;
       session = λ _. e ∙ seen_session p.session;
       transport = λ _. q ∙ ap transport_of (seen_text p.transport);
-      refused = λ n. never refl n;
+      refused = λ z n. cc;
     }
   where
-    not_required : head_refusal s ≡ Require → ⊥
+    not_required : head_refusal s ≡ Some Require → ⊥
     not_required z = let w : is_read (request_refusal _ s) ≡ false = rw z in never (ap is_read p.passes) w
 
--- a request past steps 3 to 5: its method, and its URI's place
-pub passed_is : (x : Refusal) → is_read x ≡ true → x ≡ Passed
-passed_is Passed e = refl
-passed_is Layout e = never refl (sym e)
-passed_is CSeq e = never refl (sym e)
-passed_is RequestLine e = never refl (sym e)
-passed_is HeaderTwice e = never refl (sym e)
-passed_is Version e = never refl (sym e)
-passed_is Require e = never refl (sym e)
-passed_is OtherMethod e = never refl (sym e)
-passed_is UriLong e = never refl (sym e)
-passed_is UriForm e = never refl (sym e)
-passed_is QueryUntaken e = never refl (sym e)
-passed_is QueryForm e = never refl (sym e)
-passed_is PidsClash e = never refl (sym e)
-passed_is PidsUnstreamed e = never refl (sym e)
-passed_is Outside e = never refl (sym e)
-passed_is NoStream e = never refl (sym e)
+-- what was read is not refused
+pub passed_is : (x : Option Refusal) → is_read x ≡ true → x ≡ None
+passed_is None e = refl
+passed_is (Some refusal) e = never refl (sym e)
 
+-- a request past steps 3 to 5: its method, and its URI's place
 module _ (frontends : ℕ) (s : List ℕ) {l : Lines} {c : Span} {p : Parts} (h : Headed s l c p) where
   line_is : request_line s ≡ part 0 l.line s
   line_is = sym h.begun.lines.line.is
@@ -274,7 +259,7 @@ module _ (frontends : ℕ) (s : List ℕ) {l : Lines} {c : Span} {p : Parts} (h 
   unfolding method_of
   method_read e = e ∙ ap method_in method_held
 
-  head_is : head_refusal s ≡ is_other (method_of s) gives OtherMethod or Passed
+  head_is : head_refusal s ≡ (is_other (method_of s) gives Some OtherMethod or None)
   unfolding head_refusal
   head_is =
       rw (
@@ -286,11 +271,11 @@ module _ (frontends : ℕ) (s : List ℕ) {l : Lines} {c : Span} {p : Parts} (h 
         h.free,
       )
 
-  pub request_unmethoded : {m : Method} → m ≡ method_of s → {t : Bool} → t ≡ is_other m → t ≡ true → head_refusal s ≡ OtherMethod
+  pub request_unmethoded : {m : Method} → m ≡ method_of s → {t : Bool} → t ≡ is_other m → t ≡ true → head_refusal s ≡ Some OtherMethod
   request_unmethoded e q y = let o : is_other (method_of s) ≡ true = ap is_other (sym e) ∙ sym q ∙ y in rw (head_is, o)
 
   module _ {m : Method} (e : m ≡ method_of s) {t : Bool} (q : t ≡ is_other m) (n : t ≡ false) where
-    passes : head_refusal s ≡ Passed
+    passes : head_refusal s ≡ None
     passes = let o : is_other (method_of s) ≡ false = ap is_other (sym e) ∙ sym q ∙ n in head_is ∙ rw o
 
     uri_aimed : uri_refusal frontends m (part (p.first + 1) p.second (part 0 l.line s)) ≡ request_refusal frontends s
@@ -300,10 +285,10 @@ module _ (frontends : ℕ) (s : List ℕ) {l : Lines} {c : Span} {p : Parts} (h 
     -- refused by one of steps 7 to 10
     pub request_unaimed : {x : Refusal} {r : Request} → Refuses frontends m (part (p.first + 1) p.second (part 0 l.line s)) x → r ≡ refused_request x c nowhere → RequestIs frontends s r
     request_unaimed f d =
-        request_refused f.1
-        (λ z. let w : ◌≡◌ {A = ℕ} 0 5 = ap (λ r. (reading_rule r).0) (sym passes ∙ z) in absurd (omega arith))
+        request_refused
+        (λ z. let w : None ≡ Some Require = sym passes ∙ z in cc)
         (λ _. refl)
-        (f.0 ∙ uri_aimed)
+        (sym f ∙ uri_aimed)
         h.begun.cseq_is
         d
 
@@ -345,7 +330,7 @@ module _ (s : List ℕ) {l : Lines} {c : Span} (b : Begun s l c) where
   own_line : request_line s ≡ part 0 l.line s
   own_line = sym b.lines.line.is
 
-  pub request_unparted : is_three (part 0 l.line s) ≡ false → head_refusal s ≡ RequestLine
+  pub request_unparted : is_three (part 0 l.line s) ≡ false → head_refusal s ≡ Some RequestLine
   unfolding head_refusal
   request_unparted n = rw (b.lines.whole, b.some, ap is_three own_line ∙ n)
 
@@ -357,7 +342,7 @@ module _ (s : List ℕ) {l : Lines} {c : Span} (b : Begun s l c) where
       twice_is : are_repeated s ≡ t
       twice_is = sym (w ∙ rw (seen_twice (seen_of 1 (omega arith)), seen_twice (seen_of 2 (omega arith)), seen_twice (seen_of 3 (omega arith)), seen_twice (seen_of 4 (omega arith))))
 
-      pub request_twice : t ≡ true → head_refusal s ≡ HeaderTwice
+      pub request_twice : t ≡ true → head_refusal s ≡ Some HeaderTwice
       unfolding head_refusal
       request_twice z = rw (b.lines.whole, b.some, three_is, twice_is ∙ z)
 
@@ -365,7 +350,7 @@ module _ (s : List ℕ) {l : Lines} {c : Span} (b : Begun s l c) where
         version_is : is_version s ≡ v
         version_is = sym (u ∙ ap (λ x. are_alike Counts x (text "RTSP/1.0")) (i.version.is ∙ ap (line_part 2) (sym own_line)))
 
-        pub request_unversioned : v ≡ false → head_refusal s ≡ Version
+        pub request_unversioned : v ≡ false → head_refusal s ≡ Some Version
         unfolding head_refusal
         request_unversioned z = rw (b.lines.whole, b.some, three_is, twice_is ∙ n, version_is ∙ z)
 
@@ -374,7 +359,7 @@ module _ (s : List ℕ) {l : Lines} {c : Span} (b : Begun s l c) where
           sent_is : ltb 0 (length (values_of 3 (header_lines s))) ≡ ltb 0 (times_of (get_or l.headers 3 unseen))
           sent_is = sym (seen_sent (seen_of 3 (omega arith)))
 
-          required_is : ltb 0 (times_of (get_or l.headers 3 unseen)) ≡ true → head_refusal s ≡ Require
+          required_is : ltb 0 (times_of (get_or l.headers 3 unseen)) ≡ true → head_refusal s ≡ Some Require
           unfolding head_refusal
           required_is y = rw (b.lines.whole, b.some, three_is, twice_is ∙ n, version_is ∙ a, sent_is ∙ y)
 
@@ -383,7 +368,7 @@ module _ (s : List ℕ) {l : Lines} {c : Span} (b : Begun s l c) where
           request_required {place = place} h q =
               let y : ltb 0 (times_of (get_or l.headers 3 unseen)) ≡ true = (first_there (get_or l.headers 3 unseen) h).0 in
               let z : place_of (get_or l.headers 3 unseen) ≡ place = (first_there (get_or l.headers 3 unseen) h).1 in
-              request_refused refl
+              request_refused
               (λ _. (rw z at (seen_of 3 (omega arith)).value, rw z at (b.lines.starts 3 (omega arith))))
               (λ n. absurd (n (required_is y)))
               (rw (required_is y))

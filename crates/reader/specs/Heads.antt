@@ -14,7 +14,6 @@ use Rattle.target.specs.declared.Parts.{Parts}
 use Rattle.reader.specs.Fields.{session_from, session_of, transport_of}
 use Rattle.target.specs.Uri.{stream_named, host_of, query_of}
 use Rattle.aim.specs.Found.{query_start, start_in}
-use Rattle.refusals.specs.Refusals.{is_read}
 use Rattle.reader.specs.Request.{cseq_of, is_twice, method_of, uri_of, request_refusal, head_refusal}
 use Rattle.aim.specs.Aim.{method_number}
 use Rattle.aim.specs.Query.{parts_of, text_in, code_in}
@@ -25,7 +24,7 @@ use Rattle.reader.specs.declared.fields.Session.TheVariants.{Absent}
 use Rattle.scan.specs.declared.Span.{Span}
 use Rattle.target.specs.Line.{line_part}
 use Rattle.refusals.specs.declared.Refusal.{Refusal}
-use Rattle.refusals.specs.declared.Refusal.TheVariants.{Passed, Require}
+use Rattle.refusals.specs.declared.Refusal.TheVariants.{Require}
 use Rattle.aim.specs.declared.Method.TheVariants.{Other, Options, Setup, Play, Teardown}
 use Rattle.reader.specs.declared.Request.{Request}
 use Rattle.scan.specs.Text.{is, before, text, is_empty, are_alike, place_among}
@@ -109,7 +108,7 @@ pub record Headed (s : List ℕ) (l : Lines) (cseq : Span) (parts : Parts) : Typ
 
 -- and that nothing refuses: what it asks
 pub record Passing (frontends : ℕ) (s : List ℕ) (l : Lines) (cseq : Span) (method : Method) (from : ℕ) (a : Aim) : Type 0 where
-  pub passes : request_refusal frontends s ≡ Passed
+  pub passes : request_refusal frontends s ≡ None
   pub cseq_is : CseqIs s cseq
   pub method_is : method ≡ method_of s
   pub stream : Some a.stream ≡ stream_named (uri_of s)
@@ -130,7 +129,7 @@ refused_request refusal cseq require =
     record {
       codes = replicate 13 0;
       spans = replicate 13 nowhere;
-      refusal = refusal;
+      refusal = Some refusal;
       cseq = cseq;
       method = Other;
       stream = 0;
@@ -145,18 +144,18 @@ refused_request refusal cseq require =
 pub record RequestIs (frontends : ℕ) (s : List ℕ) (r : Request) : Type 0 where
   pub refusal : r.refusal ≡ request_refusal frontends s
   pub cseq : CseqIs s r.cseq
-  pub require : head_refusal s ≡ Require → Holds s (first_value (values_of 3 (header_lines s))) r.require.start r.require.end
-  pub unrequired : (head_refusal s ≡ Require → ⊥) → r.require ≡ nowhere
-  pub method : r.refusal ≡ Passed → r.method ≡ method_of s
-  pub stream : r.refusal ≡ Passed → Some r.stream ≡ stream_named (uri_of s)
-  pub host : r.refusal ≡ Passed → Holds s (host_of (uri_of s)) r.host.start r.host.end
-  pub query : r.refusal ≡ Passed → Holds s (query_of (uri_of s)) r.query.start r.query.end
-  pub codes : r.refusal ≡ Passed → (a : ℕ) → get_or r.codes a 0 ≡ code_in frontends a (parts_of (uri_of s))
-  pub spans : r.refusal ≡ Passed → (a : ℕ) → Holds (query_of (uri_of s)) (text_in a (parts_of (uri_of s))) (get_or r.spans a nowhere).start (get_or r.spans a nowhere).end
-  pub session : r.refusal ≡ Passed → r.session ≡ session_of (values_of 1 (header_lines s))
-  pub transport : r.refusal ≡ Passed → r.transport ≡ transport_of (first_value (values_of 2 (header_lines s)))
-  pub require_starts : head_refusal s ≡ Require → r.require.start ≡ value_start 3 s
-  pub host_starts : r.refusal ≡ Passed → r.host.start ≡ uri_start s + 7
-  pub query_starts : r.refusal ≡ Passed → r.query.start ≡ uri_start s + query_start (uri_of s)
-  pub starts : r.refusal ≡ Passed → (a : ℕ) → (get_or r.spans a nowhere).start ≡ start_in a (uri_of s)
-  pub refused : is_read r.refusal ≡ false → r ≡ refused_request r.refusal r.cseq r.require
+  pub require : head_refusal s ≡ Some Require → Holds s (first_value (values_of 3 (header_lines s))) r.require.start r.require.end
+  pub unrequired : (head_refusal s ≡ Some Require → ⊥) → r.require ≡ nowhere
+  pub method : r.refusal ≡ None → r.method ≡ method_of s
+  pub stream : r.refusal ≡ None → Some r.stream ≡ stream_named (uri_of s)
+  pub host : r.refusal ≡ None → Holds s (host_of (uri_of s)) r.host.start r.host.end
+  pub query : r.refusal ≡ None → Holds s (query_of (uri_of s)) r.query.start r.query.end
+  pub codes : r.refusal ≡ None → (a : ℕ) → get_or r.codes a 0 ≡ code_in frontends a (parts_of (uri_of s))
+  pub spans : r.refusal ≡ None → (a : ℕ) → Holds (query_of (uri_of s)) (text_in a (parts_of (uri_of s))) (get_or r.spans a nowhere).start (get_or r.spans a nowhere).end
+  pub session : r.refusal ≡ None → r.session ≡ session_of (values_of 1 (header_lines s))
+  pub transport : r.refusal ≡ None → r.transport ≡ transport_of (first_value (values_of 2 (header_lines s)))
+  pub require_starts : head_refusal s ≡ Some Require → r.require.start ≡ value_start 3 s
+  pub host_starts : r.refusal ≡ None → r.host.start ≡ uri_start s + 7
+  pub query_starts : r.refusal ≡ None → r.query.start ≡ uri_start s + query_start (uri_of s)
+  pub starts : r.refusal ≡ None → (a : ℕ) → (get_or r.spans a nowhere).start ≡ start_in a (uri_of s)
+  pub refused : (x : Refusal) → r.refusal ≡ Some x → r ≡ refused_request x r.cseq r.require

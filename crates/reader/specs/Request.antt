@@ -1,5 +1,5 @@
 -- Document 01, "The answer, first that applies", steps 1 to 10: of a request's bytes, and then of its URI. Assumes nothing.
-use Rattle.std.specs.Prelude.{ℕ, Bool, not, cond, ◌||◌, List, [], ◌∷◌, ltb, eqb, length, get_or}
+use Rattle.std.specs.Prelude.{ℕ, Bool, not, cond, ◌||◌, List, [], ◌∷◌, ltb, eqb, length, get_or, Option, Some, None}
 use Rattle.scan.specs.Text.{text, is_empty, are_alike, place_among}
 use Rattle.scan.specs.declared.Case.TheVariants.{Counts}
 use Rattle.digits.specs.Reading.{digits_read}
@@ -8,7 +8,7 @@ use Rattle.lines.specs.Headers.{values_of}
 use Rattle.target.specs.Line.{is_three, line_part}
 use Rattle.refusals.specs.Refusals.{is_read}
 use Rattle.refusals.specs.declared.Refusal.{Refusal}
-use Rattle.refusals.specs.declared.Refusal.TheVariants.{Passed, Layout, CSeq, RequestLine, HeaderTwice, Version, Require}
+use Rattle.refusals.specs.declared.Refusal.TheVariants.{Layout, CSeq, RequestLine, HeaderTwice, Version, Require}
 use Rattle.refusals.specs.declared.Refusal.TheVariants.{Method as OtherMethod}
 use Rattle.aim.specs.declared.Method.{Method}
 use Rattle.aim.specs.declared.Method.TheVariants.{Options, Setup, Play, Teardown, Other}
@@ -38,17 +38,17 @@ uri_of s = line_part 1 (request_line s)
 abbrev pub is_twice : ℕ → List ℕ → Bool
 is_twice k s = ltb 1 (length (values_of k (header_lines s)))
 
-unfoldable pub head_refusal : List ℕ → Refusal
+unfoldable pub head_refusal : List ℕ → Option Refusal
 head_refusal s =
-    not (is_laid_out s) gives Layout or
-    is_empty (cseq_of s) gives CSeq or
-    not (is_three (request_line s)) gives RequestLine or
+    not (is_laid_out s) gives Some Layout or
+    is_empty (cseq_of s) gives Some CSeq or
+    not (is_three (request_line s)) gives Some RequestLine or
     -- "another known header twice": Session 1, Transport 2, Require 3, Accept 4
-    (is_twice 1 s || is_twice 2 s || is_twice 3 s || is_twice 4 s) gives HeaderTwice or
-    not (are_alike Counts (line_part 2 (request_line s)) (text "RTSP/1.0")) gives Version or
-    ltb 0 (length (values_of 3 (header_lines s))) gives Require or
-    eqb (method_number (method_of s)) 4 gives OtherMethod or
-    Passed
+    (is_twice 1 s || is_twice 2 s || is_twice 3 s || is_twice 4 s) gives Some HeaderTwice or
+    not (are_alike Counts (line_part 2 (request_line s)) (text "RTSP/1.0")) gives Some Version or
+    ltb 0 (length (values_of 3 (header_lines s))) gives Some Require or
+    eqb (method_number (method_of s)) 4 gives Some OtherMethod or
+    None
 
-unfoldable pub request_refusal : ℕ → List ℕ → Refusal
+unfoldable pub request_refusal : ℕ → List ℕ → Option Refusal
 request_refusal frontends s = not (is_read (head_refusal s)) gives head_refusal s or uri_refusal frontends (method_of s) (uri_of s)

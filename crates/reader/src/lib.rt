@@ -17,13 +17,13 @@ use refusals::Refusal;
 use scan::{Case, Span};
 use target::Parts;
 
-// A request, as it was read: why it is refused, or what it asks. `cseq` is where the digits of its CSeq stand, 0 to 0 where it has none. Spans of
+// A request, as it was read: why it is refused, if it is, and what it asks. `cseq` is where the digits of its CSeq stand, 0 to 0 where it has none. Spans of
 // attributes count from the start of the query's.
 #[derive(Clone, Copy)]
 pub struct Request {
     pub codes: [u32; 13],
     pub spans: [Span; 13],
-    pub refusal: Refusal,
+    pub refusal: Option<Refusal>,
     pub cseq: Span,
     pub method: Method,
     pub stream: u32,
@@ -41,7 +41,7 @@ fn refuse(refusal: Refusal, cseq: Span, require: Span) -> Request
     Request {
         codes: [0; 13],
         spans: [Span { start: 0, end: 0 }; 13],
-        refusal,
+        refusal: Some(refusal),
         cseq,
         method: Method::Other,
         stream: 0,
@@ -155,7 +155,7 @@ fn passed(
     Request {
         codes,
         spans,
-        refusal: Refusal::Passed,
+        refusal: None,
         cseq,
         method,
         stream: a.stream,

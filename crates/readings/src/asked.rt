@@ -58,16 +58,18 @@ fn passed(rt: &impl Print, s: &[u8], r: &Request) -> io::Result<()> {
 // What the request `s` asks of a box with two frontends.
 pub(crate) fn request(rt: &impl Print, s: &[u8]) -> io::Result<()> {
     let r = reader::read(s, 2);
-    let step = refusals::step(r.refusal);
-    let status = refusals::status(r.refusal);
+    let (step, status) = match r.refusal {
+        Some(refusal) => (refusals::step(refusal), refusals::status(refusal)),
+        None => (0, 200),
+    };
     print!(rt; " step {step} status {status} cseq ")?;
     out::digits(rt, s, r.cseq)?;
     match r.refusal {
-        Refusal::Passed => passed(rt, s, &r),
-        Refusal::Require => {
+        None => passed(rt, s, &r),
+        Some(Refusal::Require) => {
             print!(rt; " require ")?;
             out::part(rt, s, r.require)
         }
-        _ => Ok(()),
+        Some(_) => Ok(()),
     }
 }

@@ -2,12 +2,10 @@
 #![tactic(auto)]
 
 ghost use Rattle.std.specs.Prelude.{◌≡◌};
-ghost use Rattle.refusals.specs.Refusals.{reading_rule, is_read};
+ghost use Rattle.refusals.specs.Refusals.{reading_rule};
 
 #[derive(Clone, Copy)]
 pub enum Refusal {
-    // Nothing of steps 1 to 10 refuses the request.
-    Passed,
     Layout,
     CSeq,
     RequestLine,
@@ -29,12 +27,11 @@ pub enum Refusal {
     NoStream,
 }
 
-// Document 01's step, 0 where nothing refuses.
+// Document 01's step.
 pub fn step(refusal: Refusal) -> u8
     ensures { result ≡ (reading_rule refusal).0 }
 {
     match refusal {
-        Refusal::Passed => 0,
         Refusal::Layout => 1,
         Refusal::CSeq => 2,
         Refusal::RequestLine => 3,
@@ -53,12 +50,11 @@ pub fn step(refusal: Refusal) -> u8
     }
 }
 
-// The status that answers it, 200 where nothing refuses.
+// The status that answers it.
 pub fn status(refusal: Refusal) -> u16
     ensures { result ≡ (reading_rule refusal).1 }
 {
     match refusal {
-        Refusal::Passed => 200,
         Refusal::Layout => 400,
         Refusal::CSeq => 400,
         Refusal::RequestLine => 400,
@@ -75,11 +71,4 @@ pub fn status(refusal: Refusal) -> u16
         Refusal::Value => 403,
         Refusal::NoStream => 405,
     }
-}
-
-// Whether nothing of steps 1 to 10 refuses the request.
-pub fn is_passed(refusal: Refusal) -> bool
-    ensures { result ≡ is_read refusal }
-{
-    step(refusal) == 0
 }

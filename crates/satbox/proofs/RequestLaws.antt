@@ -1,5 +1,5 @@
 -- A request by the ways it ends: each refusal of the call, and done; and that its answer is the meaning's and fits. Assumes nothing.
-use Rattle.std.specs.Prelude.{Result, Ok, Err}
+use Rattle.std.specs.Prelude.{Result, Ok, Err, Option, Some, None}
 use mathlib.Core.Path.{◌≡◌, refl, sym, ◌∙◌, ap, subst}
 use mathlib.Core.Bool.{true, false, not, ◌&&◌}
 use mathlib.Core.List.{List, ◌++◌}
@@ -7,7 +7,7 @@ use Prim.Native.Nat.{ℕ, ◌≤◌, ◌<◌}
 use native.Mathlib.Omega.{arith}
 use lib.Dec.{eqb}
 use lib.ListN.{length, drop}
-use Rattle.scan.proofs.Bools.{cond_keeps}
+use Rattle.scan.proofs.Bools.{cond_keeps, never}
 use Rattle.writing.specs.Wrote.{Wrote}
 use Rattle.writing.specs.Writing.{written}
 use Rattle.writing.proofs.Writes.{wrote_front, wrote_as}
@@ -25,13 +25,14 @@ use Rattle.table.specs.declared.Session.{Session}
 use Rattle.table.specs.declared.SatBox.{SatBox}
 use Rattle.table.specs.declared.Refusal.{Refusal}
 use Rattle.stream.specs.declared.Stream.{Stream}
+use Rattle.refusals.specs.declared.Refusal.{Refusal as Unread}
 use Rattle.stream.specs.declared.Refusal.{Refusal as Unmerged}
 use Rattle.stream.specs.declared.Refusal.TheVariants.{Combination as Clash, TooMany}
 use Rattle.steps.specs.Sights.{Asked, Lists, asked_of, lists_of, sight_of}
-use Rattle.steps.specs.Steps.{is_passed, is_named, table_case}
+use Rattle.steps.specs.Steps.{is_passed, is_named, table_case, read_case}
 use Rattle.steps.specs.Replies.{reply_text}
 use Rattle.steps.specs.Handed.{reply_to}
-use Rattle.steps.specs.declared.cases.Case.TheVariants.{Passed, Reading, NotReached, Full}
+use Rattle.steps.specs.declared.cases.Case.TheVariants.{Passed, NotReached, Full}
 use Rattle.steps.proofs.ReplyLaws.{Follows, follows_passed, follows_refused, is_reading, unread_chain, table_unread, reply_told, Numbers, reply_fits}
 use Rattle.closings.specs.Does.{Does}
 use Rattle.closings.specs.Closing.{swept, sweeping, at_clock, bytes_of}
@@ -90,6 +91,10 @@ numbers n a p m = record { number = n; stream = omega arith; address = a; port =
 abbrev answer_to : List ℕ → ℕ → ℕ → SatBox → List ℕ
 answer_to s address draw t = reply_text (answered s address draw t).case s (answered s address draw t).session
 
+follows_read : (r : Request) (x : Option Unread) → r.refusal ≡ x → reading.is_read x ≡ false → Follows r (read_case x)
+follows_read r None e n = never refl n
+follows_read r (Some x) e n = follows_refused x refl e
+
 module _ (s : List ℕ) (address draw : ℕ) (t : SatBox) (r : Request) (i : RequestIs t.settings.frontends s r) where
   pub answered_follows : Follows r (answered s address draw t).case
   unfolding answered
@@ -97,9 +102,9 @@ module _ (s : List ℕ) (address draw : ℕ) (t : SatBox) (r : Request) (i : Req
       let a = asked_of t.settings.frontends s in
       let client = client_of address draw a in
       cond_keeps (λ x. Follows r x.case) (reading.is_read (request_refusal t.settings.frontends s))
-      (served (kept a t) a (lists_of s) client) (denied t (Reading (request_refusal t.settings.frontends s)))
+      (served (kept a t) a (lists_of s) client) (denied t (read_case (request_refusal t.settings.frontends s)))
       (λ e. follows_passed (i.refusal ∙ passed_is _ e) (served_unread (kept a t) a (lists_of s) client))
-      (λ n. follows_refused (ap Reading (sym i.refusal)) (ap reading.is_read i.refusal ∙ n))
+      (λ n. follows_read r _ i.refusal n)
 
   module _ {b d : List ℕ} {v : Turn} {a : Answer} {n : ℕ}
       (p : TurnIs t (answered s address draw t) v) (m : Numbers (about_of v)) (h : 4096 ≤ length b)

@@ -1,5 +1,5 @@
 -- How far a request has come between the private functions of its call: what it comes to on a swept table. Assumes nothing.
-use Rattle.std.specs.Prelude.{ℕ, ◌≡◌, true, cond, List, ◌++◌, length, drop}
+use Rattle.std.specs.Prelude.{ℕ, ◌≡◌, true, cond, List, ◌++◌, length, drop, Option}
 use Rattle.refusals.specs.Refusals.{is_read}
 use Rattle.refusals.specs.declared.Refusal.{Refusal}
 use Rattle.reader.specs.declared.Request.{Request}
@@ -15,7 +15,7 @@ use Rattle.serving.specs.Turns.{TurnIs}
 use Rattle.satbox.specs.declared.Response.{Response}
 
 -- the number of the session that a request names, where steps 1 to 10 let it through
-abbrev pub number_by : Refusal → Sent → ℕ
+abbrev pub number_by : Option Refusal → Sent → ℕ
 number_by refusal sent = cond (is_read refusal) (session_number sent) 0
 
 -- what passed steps 1 to 15 was read

@@ -20,10 +20,10 @@ use Rattle.stream.specs.Streams.{blank, merge_of}
 use Rattle.stream.specs.declared.Refusal.{Refusal}
 use Rattle.stream.specs.declared.Refusal.TheVariants.{Combination as Clash, TooMany}
 use Rattle.steps.specs.Sights.{Asked, Lists, asked_of, lists_of, port_of, sight_of}
-use Rattle.steps.specs.Steps.{is_passed, is_setup, is_named, table_case}
+use Rattle.steps.specs.Steps.{is_passed, is_setup, is_named, table_case, read_case}
 use Rattle.steps.specs.declared.Sight.{Sight}
 use Rattle.steps.specs.declared.cases.Case.{Case}
-use Rattle.steps.specs.declared.cases.Case.TheVariants.{Passed, Combination, TooManyPids, NotReached, Full, Reading}
+use Rattle.steps.specs.declared.cases.Case.TheVariants.{Passed, Combination, TooManyPids, NotReached, Full}
 use Rattle.scan.specs.Lists.{◌gives◌or◌}
 
 -- not "no free session place"
@@ -179,4 +179,4 @@ answered s address draw t =
     let a = asked_of t.settings.frontends s in
     cond (reading.is_read (request_refusal t.settings.frontends s))
     (served (kept a t) a (lists_of s) (client_of address draw a))
-    (denied t (Reading (request_refusal t.settings.frontends s)))
+    (denied t (read_case (request_refusal t.settings.frontends s)))

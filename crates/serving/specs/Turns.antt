@@ -17,11 +17,11 @@ use Rattle.finding.specs.Finding.{lowest_place, lowest_id}
 use Rattle.table.specs.declared.SatBox.{SatBox}
 use Rattle.table.specs.declared.Session.{Session}
 use Rattle.steps.specs.Handed.{asked_by, Told}
-use Rattle.steps.specs.Steps.{is_passed, is_named, table_case}
+use Rattle.steps.specs.Steps.{is_passed, is_named, table_case, read_case}
 use Rattle.steps.specs.Sights.{sight_of, Asked, Lists}
 use Rattle.steps.specs.declared.Sight.{Sight}
 use Rattle.steps.specs.declared.cases.Case.{Case}
-use Rattle.steps.specs.declared.cases.Case.TheVariants.{Passed, NotReached, Full, Reading}
+use Rattle.steps.specs.declared.cases.Case.TheVariants.{Passed, NotReached, Full}
 use Rattle.closings.specs.Closing.{Did, nothing, restreamed, noting, closing}
 use Rattle.closings.specs.Does.{Closable}
 use Rattle.closings.specs.Stamps.{codes_of}
@@ -240,8 +240,8 @@ abbrev pub Found : SatBox → Sight → Stream → Type 0
 Found t v m = (v.frontend ≡ 0 → ⊥) → m ≡ stream_of t v.stream
 
 -- the first of steps 1 to 15 that refuses it
-abbrev pub first_case : Refusal → Sight → Case
-first_case refusal v = cond (reading.is_read refusal) (table_case v) (Reading refusal)
+abbrev pub first_case : Option Refusal → Sight → Case
+first_case refusal v = cond (reading.is_read refusal) (table_case v) (read_case refusal)
 
 abbrev pub opens_now : Case → Sight → Bool
 opens_now case v = is_passed case && is_opening v

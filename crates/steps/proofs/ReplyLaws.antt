@@ -12,14 +12,12 @@ use Rattle.scan.specs.Lists.{all, ◌gives◌or◌}
 use Rattle.scan.specs.Found.{text_at}
 use Rattle.scan.specs.declared.Span.{Span}
 use Rattle.scan.proofs.Bools.{never, by_test, cond_keeps}
-use Rattle.scan.specs.Text.{is_empty}
 use Rattle.scan.proofs.Parts.{text_held, text_within, text_nowhere}
 use Rattle.digits.specs.Reading.{read_in, digits_read}
 use Rattle.digits.proofs.Limits.{are_digits_law}
-use Rattle.lines.specs.Lines.{is_laid_out, request_line, header_lines}
+use Rattle.lines.specs.Lines.{is_laid_out, header_lines}
 use Rattle.lines.specs.Headers.{values_of}
 use Rattle.lines.specs.Laid.{first_value}
-use Rattle.target.specs.Line.{is_three}
 use Rattle.target.specs.Uri.{is_uri, host_of, has_query}
 use Rattle.aim.specs.Query.{parts_of, are_parts}
 use Rattle.aim.specs.Found.{is_within, takes_no_query, lacks_stream}
@@ -29,7 +27,7 @@ use Rattle.aim.specs.declared.Method.{Method}
 use Rattle.aim.specs.declared.Method.TheVariants.{Options, Setup, Play, Teardown, Other}
 use Rattle.refusals.specs.declared.Refusal.{Refusal}
 use Rattle.refusals.specs.declared.Refusal.TheVariants as refusal
-use Rattle.reader.specs.Heads.{is_other, is_version, RequestIs, are_repeated}
+use Rattle.reader.specs.Heads.{RequestIs}
 use Rattle.reader.specs.Request.{method_of, uri_of, cseq_most, cseq_limit, cseq_of, head_refusal, request_refusal}
 use Rattle.reader.specs.declared.Request.{Request}
 use Rattle.table.specs.declared.Session.{Session}
@@ -39,7 +37,8 @@ use Rattle.answer.specs.declared.Answer.{Answer}
 use Rattle.answer.specs.declared.Kind.TheVariants as kind
 use Rattle.answer.proofs.Fits.{answer_fits}
 use Rattle.steps.proofs.Telling.{asked_short, head_short}
-use Rattle.steps.specs.Steps.{rule_of, is_passed, table_case}
+use Rattle.std.specs.Prelude.{Option, Some, None}
+use Rattle.steps.specs.Steps.{rule_of, read_case, is_passed, table_case}
 use Rattle.steps.specs.Tests.{lacks_session, names_dead, is_out_of_state, is_anothers, lacks_port}
 use Rattle.steps.specs.Replies.{granted_lines, reply_text}
 use Rattle.steps.specs.Handed.{granted_kind, kind_of, reply_to}
@@ -63,8 +62,30 @@ is_reading Full = false
 
 -- a case that what was read may have: its refusal, or where it has none any other
 pub data Follows (r : Request) (c : Case) : Type 0 where
-  follows_passed : r.refusal ≡ refusal.Passed → is_reading c ≡ false → Follows r c
-  follows_refused : c ≡ Reading r.refusal → reading.is_read r.refusal ≡ false → Follows r c
+  follows_passed : r.refusal ≡ None → is_reading c ≡ false → Follows r c
+  follows_refused : (x : Refusal) → c ≡ Reading x → r.refusal ≡ Some x → Follows r c
+
+-- a refusal of the reading refuses
+pub reading_refuses : (x : Refusal) → is_passed (Reading x) ≡ false
+reading_refuses refusal.Layout = refl
+reading_refuses refusal.CSeq = refl
+reading_refuses refusal.RequestLine = refl
+reading_refuses refusal.HeaderTwice = refl
+reading_refuses refusal.Version = refl
+reading_refuses refusal.Require = refl
+reading_refuses refusal.Method = refl
+reading_refuses refusal.UriLong = refl
+reading_refuses refusal.UriForm = refl
+reading_refuses refusal.QueryUntaken = refl
+reading_refuses refusal.QueryForm = refl
+reading_refuses refusal.PidsClash = refl
+reading_refuses refusal.PidsUnstreamed = refl
+reading_refuses refusal.Value = refl
+reading_refuses refusal.NoStream = refl
+
+pub read_passes : (x : Option Refusal) → is_passed (read_case x) ≡ reading.is_read x
+read_passes None = refl
+read_passes (Some x) = reading_refuses x
 
 -- a case that refuses, and is answered without a line of its own
 abbrev IsBare : Case → Type 0
@@ -108,47 +129,54 @@ table_unread v =
 
 -- THE WORD THAT AN ANSWER REPEATS
 -- step 5 is a Require header's
-uri_step : (frontends : ℕ) (method : Method) (u : List ℕ) → (reading_rule (uri_refusal frontends method u)).0 ≡ 5 → ⊥
+uri_step : (frontends : ℕ) (method : Method) (u : List ℕ) → uri_refusal frontends method u ≡ Some refusal.Require → ⊥
 unfolding uri_refusal
 uri_step frontends method u =
-    keeps (ltb 1024 (length u)) refusal.UriLong _ (λ e. omega arith)
-    (keeps (not (is_uri u)) refusal.UriForm _ (λ e. omega arith)
-    (keeps (has_query u && takes_no_query method) refusal.QueryUntaken _ (λ e. omega arith)
-    (keeps (not (are_parts [] (parts_of u))) refusal.QueryForm _ (λ e. omega arith)
-    (keeps (is_given 10 u && edits u) refusal.PidsClash _ (λ e. omega arith)
-    (keeps (edits u && not (has_stream u)) refusal.PidsUnstreamed _ (λ e. omega arith)
-    (keeps (not (all (is_within frontends) (parts_of u))) refusal.Value _ (λ e. omega arith)
-    (keeps (lacks_stream method (has_stream u) (has_query u)) refusal.NoStream refusal.Passed (λ e. omega arith) (λ e. omega arith))))))))
+    keeps (ltb 1024 (length u)) (Some refusal.UriLong) _ (λ e. other _ e (λ k. omega arith))
+    (keeps (not (is_uri u)) (Some refusal.UriForm) _ (λ e. other _ e (λ k. omega arith))
+    (keeps (has_query u && takes_no_query method) (Some refusal.QueryUntaken) _ (λ e. other _ e (λ k. omega arith))
+    (keeps (not (are_parts [] (parts_of u))) (Some refusal.QueryForm) _ (λ e. other _ e (λ k. omega arith))
+    (keeps (is_given 10 u && edits u) (Some refusal.PidsClash) _ (λ e. other _ e (λ k. omega arith))
+    (keeps (edits u && not (has_stream u)) (Some refusal.PidsUnstreamed) _ (λ e. other _ e (λ k. omega arith))
+    (keeps (not (all (is_within frontends) (parts_of u))) (Some refusal.Value) _ (λ e. other _ e (λ k. omega arith))
+    (keeps (lacks_stream method (has_stream u) (has_query u)) (Some refusal.NoStream) None (λ e. other _ e (λ k. omega arith)) (λ e. cc))))))))
   where
-    keeps : (b : Bool) (x y : Refusal) → ((reading_rule x).0 ≡ 5 → ⊥) → ((reading_rule y).0 ≡ 5 → ⊥) → (reading_rule (b gives x or y)).0 ≡ 5 → ⊥
-    keeps = refuses_keeps (λ x. (reading_rule x).0 ≡ 5 → ⊥)
+    keeps : (b : Bool) (x y : Option Refusal) → (x ≡ Some refusal.Require → ⊥) → (y ≡ Some refusal.Require → ⊥) → (b gives x or y) ≡ Some refusal.Require → ⊥
+    keeps = refuses_keeps (λ x. x ≡ Some refusal.Require → ⊥)
 
-head_step : (s : List ℕ) → (reading_rule (head_refusal s)).0 ≡ 5 → head_refusal s ≡ refusal.Require
-unfolding head_refusal
-head_step s =
-    keeps (not (is_laid_out s)) refusal.Layout _ (λ e. absurd (omega arith))
-    (keeps (is_empty (cseq_of s)) refusal.CSeq _ (λ e. absurd (omega arith))
-    (keeps (not (is_three (request_line s))) refusal.RequestLine _ (λ e. absurd (omega arith))
-    (keeps (are_repeated s) refusal.HeaderTwice _ (λ e. absurd (omega arith))
-    (keeps (not (is_version s)) refusal.Version _ (λ e. absurd (omega arith))
-    (keeps (ltb 0 (length (values_of 3 (header_lines s)))) refusal.Require _ (λ e. refl)
-    (keeps (is_other (method_of s)) refusal.Method refusal.Passed (λ e. absurd (omega arith)) (λ e. absurd (omega arith))))))))
-  where
-    keeps : (b : Bool) (x y : Refusal) → ((reading_rule x).0 ≡ 5 → x ≡ refusal.Require) → ((reading_rule y).0 ≡ 5 → y ≡ refusal.Require)
-        → (reading_rule (b gives x or y)).0 ≡ 5 → (b gives x or y) ≡ refusal.Require
-    keeps = refuses_keeps (λ x. (reading_rule x).0 ≡ 5 → x ≡ refusal.Require)
+    -- a case of another step
+    other : (x : Refusal) → Some x ≡ Some refusal.Require → ((reading_rule x).0 ≡ 5 → ⊥) → ⊥
+    other x e k = let o : x ≡ refusal.Require = cc in k (ap (λ r. (reading_rule r).0) o)
 
-required : (frontends : ℕ) (s : List ℕ) → (reading_rule (request_refusal frontends s)).0 ≡ 5 → head_refusal s ≡ refusal.Require
+required : (frontends : ℕ) (s : List ℕ) → request_refusal frontends s ≡ Some refusal.Require → head_refusal s ≡ Some refusal.Require
 unfolding request_refusal
 required frontends s =
-    by_test (λ t. (reading_rule (not t gives head_refusal s or uri_refusal frontends (method_of s) (uri_of s))).0 ≡ 5 → head_refusal s ≡ refusal.Require)
+    by_test (λ t. (not t gives head_refusal s or uri_refusal frontends (method_of s) (uri_of s)) ≡ Some refusal.Require → head_refusal s ≡ Some refusal.Require)
     (reading.is_read (head_refusal s))
     (λ _ e. absurd (uri_step frontends (method_of s) (uri_of s) e))
-    (λ _ e. head_step s e)
+    (λ _ e. e)
 
-requires : (frontends : ℕ) (s : List ℕ) → head_refusal s ≡ refusal.Require → request_refusal frontends s ≡ refusal.Require
+requires : (frontends : ℕ) (s : List ℕ) → head_refusal s ≡ Some refusal.Require → request_refusal frontends s ≡ Some refusal.Require
 unfolding request_refusal
 requires frontends s e = rw e
+
+-- step 5 is a Require header's
+fifth : (x : Refusal) → (reading_rule x).0 ≡ 5 → x ≡ refusal.Require
+fifth refusal.Layout e = absurd (omega arith)
+fifth refusal.CSeq e = absurd (omega arith)
+fifth refusal.RequestLine e = absurd (omega arith)
+fifth refusal.HeaderTwice e = absurd (omega arith)
+fifth refusal.Version e = absurd (omega arith)
+fifth refusal.Require e = refl
+fifth refusal.Method e = absurd (omega arith)
+fifth refusal.UriLong e = absurd (omega arith)
+fifth refusal.UriForm e = absurd (omega arith)
+fifth refusal.QueryUntaken e = absurd (omega arith)
+fifth refusal.QueryForm e = absurd (omega arith)
+fifth refusal.PidsClash e = absurd (omega arith)
+fifth refusal.PidsUnstreamed e = absurd (omega arith)
+fifth refusal.Value e = absurd (omega arith)
+fifth refusal.NoStream e = absurd (omega arith)
 
 -- the lines of a kind are those of its method or its step
 granted_told : (method : Method) (host : List ℕ) (c : Case) (r : Request) (session : Session) → lines_by (granted_kind method) host (reply_to c r session) ≡ granted_lines method host session
@@ -172,14 +200,14 @@ refused_told step word value a h = by (eqb step 5) (eqb step 6) (eqb step 10) h
     by false false false k = refl
 
 module _ (frontends : ℕ) (s : List ℕ) (r : Request) (i : RequestIs frontends s r) where
-  text_none : ((reading_rule r.refusal).0 ≡ 5 → ⊥) → text_at s r.require ≡ []
-  text_none h = rw (i.unrequired (λ z. h (ap (λ r. (reading_rule r).0) (i.refusal ∙ requires frontends s z)))) (text_nowhere s)
+  text_none : (r.refusal ≡ Some refusal.Require → ⊥) → text_at s r.require ≡ []
+  text_none h = rw (i.unrequired (λ z. h (i.refusal ∙ requires frontends s z))) (text_nowhere s)
 
-  text_after : r.refusal ≡ refusal.Passed → text_at s r.require ≡ []
-  text_after p = text_none (λ e. let n : ◌≡◌ {A = ℕ} 0 5 = ap (λ r. (reading_rule r).0) (sym p) ∙ e in omega arith)
+  text_after : r.refusal ≡ None → text_at s r.require ≡ []
+  text_after p = text_none (λ e. let n : None ≡ Some refusal.Require = sym p ∙ e in cc)
 
-  required_by : eqb (reading_rule r.refusal).0 5 ≡ true → head_refusal s ≡ refusal.Require
-  required_by e = required frontends s (ap (λ r. (reading_rule r).0) (sym i.refusal) ∙ eqb-true (reading_rule r.refusal).0 5 e)
+  required_by : {x : Refusal} → r.refusal ≡ Some x → eqb (reading_rule x).0 5 ≡ true → head_refusal s ≡ Some refusal.Require
+  required_by {x} n e = required frontends s (sym i.refusal ∙ n ∙ ap Some (fifth x (eqb-true (reading_rule x).0 5 e)))
 
   -- which place of the request is repeated
   abbrev word_at : Case → Span
@@ -197,11 +225,11 @@ module _ (frontends : ℕ) (s : List ℕ) (r : Request) (i : RequestIs frontends
       ∙ ap (λ m. granted_lines m (text_at s r.host) session) (i.method p)
       ∙ ap (λ host. granted_lines (method_of s) host session) (text_held s (host_of (uri_of s)) r.host (i.host p)))
       (λ x b. rw (b.1 r.method, b.0) (sym (b.2 (first_value (values_of 3 (header_lines s)))))) c n
-  lines_told_law c session (follows_refused e n) =
+  lines_told_law c session (follows_refused x e n) =
       rw e
-      (refused_told (reading_rule r.refusal).0 (text_at s (word_at (Reading r.refusal))) (first_value (values_of 3 (header_lines s))) (reply_to (Reading r.refusal) r session)
-      (λ y. rw n (text_held s _ r.require (i.require (required_by y))))
-      ∙ rw n)
+      (refused_told (reading_rule x).0 (text_at s (word_at (Reading x))) (first_value (values_of 3 (header_lines s))) (reply_to (Reading x) r session)
+      (λ y. rw (reading_refuses x) (text_held s _ r.require (i.require (required_by n y))))
+      ∙ rw (reading_refuses x))
 
   -- and the digits of CSeq are those that were sent
   cseq_told : text_at s r.cseq ≡ cseq_of s
@@ -217,16 +245,15 @@ module _ (frontends : ℕ) (s : List ℕ) (r : Request) (i : RequestIs frontends
   -- ITS WORD IS SHORT
   word_short : (c : Case) → Follows r c → length (text_at s (word_at c)) ≤ 2048
   word_short c (follows_passed p n) = omega (arith, text_within s (word_at c), asked_short frontends s (sym i.refusal ∙ p))
-  word_short c (follows_refused e n) =
-      rw (e, n)
-      (by_test (λ _. length (text_at s r.require) ≤ 2048) (eqb (reading_rule r.refusal).0 5)
-      (λ y. let h = required_by y in
-      omega (arith, text_within s r.require, head_short s (λ z. let k : ◌≡◌ {A = ℕ} 5 1 = ap (λ r. (reading_rule r).0) (sym h ∙ z) in omega arith)))
-      (λ z. rw (text_none (eqb-false (reading_rule r.refusal).0 5 z)) (omega arith)))
+  word_short c (follows_refused x e n) =
+      rw (e, reading_refuses x)
+      (by_test (λ _. length (text_at s r.require) ≤ 2048) (eqb (reading_rule x).0 5)
+      (λ y. let h = required_by n y in
+      omega (arith, text_within s r.require, head_short s (λ z. let k : ◌≡◌ {A = Option Refusal} (Some refusal.Require) (Some refusal.Layout) = sym h ∙ z in cc)))
+      (λ z. rw (text_none (λ k. let o : x ≡ refusal.Require = let m : Some x ≡ Some refusal.Require = sym n ∙ k in cc in eqb-false (reading_rule x).0 5 z (ap (λ r. (reading_rule r).0) o))) (omega arith)))
 
 -- EVERY ANSWER FITS
 status_read : (q : Refusal) → (reading_rule q).1 < 1000
-status_read refusal.Passed = omega arith
 status_read refusal.Layout = omega arith
 status_read refusal.CSeq = omega arith
 status_read refusal.RequestLine = omega arith

@@ -25,14 +25,14 @@ use Rattle.stream.specs.Arrays.{kept, is_fit, are_fit, is_in}
 use Rattle.stream.proofs.Fitting.{all_in, fit_of, read_ranged}
 use Rattle.aim.specs.Query.{code_from, parts_of, text_in, code_in}
 use Rattle.refusals.specs.declared.Refusal.{Refusal}
-use Rattle.refusals.specs.declared.Refusal.TheVariants.{Passed, Layout}
+use Rattle.refusals.specs.declared.Refusal.TheVariants.{Layout}
 use Rattle.reader.specs.Fields.{transport_of, ports_in, port_from}
 use Rattle.reader.specs.Heads.{is_pair, dash, RequestIs}
 use Rattle.reader.specs.Request.{uri_of, head_refusal, request_refusal}
 use Rattle.reader.specs.declared.Request.{Request}
+use Rattle.std.specs.Prelude.{Option, Some, None}
 use Rattle.steps.specs.Sights.{codes_in, asked_of, lists_of}
 use Rattle.steps.specs.Handed.{asked_by, lists_by, Told}
-use Rattle.refusals.specs.Refusals.{reading_rule}
 
 -- THE CODES, by the attribute's place
 -- so many numbers from n on
@@ -53,7 +53,7 @@ pub code_at : (frontends a : ℕ) (u : List ℕ) → a < 13 → get_or (codes_in
 unfolding codes_in
 code_at frontends a u h = counted (λ k. code_in frontends k (parts_of u)) 0 13 a h ∙ ap (λ k. code_in frontends k (parts_of u)) (omega arith)
 
-module _ (frontends : ℕ) (s : List ℕ) (r : Request) (i : RequestIs frontends s r) (p : r.refusal ≡ Passed) where
+module _ (frontends : ℕ) (s : List ℕ) (r : Request) (i : RequestIs frontends s r) (p : r.refusal ≡ None) where
   codes_told : length r.codes ≡ 13 → r.codes ≡ codes_in frontends (uri_of s)
   codes_told e =
       ext_get_or 0 r.codes (codes_in frontends (uri_of s)) (e ∙ sym (codes_length frontends (uri_of s)))
@@ -128,17 +128,17 @@ asked_port v port e =
 
 -- A REQUEST THAT STEPS 1 TO 10 LET THROUGH
 -- a request over 2,048 bytes is refused at step 1
-pub head_short : (s : List ℕ) → (head_refusal s ≡ Layout → ⊥) → length s ≤ 2048
+pub head_short : (s : List ℕ) → (head_refusal s ≡ Some Layout → ⊥) → length s ≤ 2048
 unfolding head_refusal is_laid_out
 head_short s h = leb-true (length s) 2048 (and_both (leb (length s) 2048) _ (laid (is_laid_out s) _ h)).0
   where
-    laid : (t : Bool) (rest : Refusal) → ((not t gives Layout or rest) ≡ Layout → ⊥) → t ≡ true
+    laid : (t : Bool) (rest : Option Refusal) → ((not t gives Some Layout or rest) ≡ Some Layout → ⊥) → t ≡ true
     laid true rest k = refl
     laid false rest k = absurd (k refl)
 
-pub request_short : (frontends : ℕ) (s : List ℕ) → (request_refusal frontends s ≡ Layout → ⊥) → length s ≤ 2048
+pub request_short : (frontends : ℕ) (s : List ℕ) → (request_refusal frontends s ≡ Some Layout → ⊥) → length s ≤ 2048
 unfolding request_refusal
 request_short frontends s h = head_short s (λ e. h (rw e))
 
-pub asked_short : (frontends : ℕ) (s : List ℕ) → request_refusal frontends s ≡ Passed → length s ≤ 2048
-asked_short frontends s p = request_short frontends s (λ e. let n : ◌≡◌ {A = ℕ} 0 1 = ap (λ r. (reading_rule r).0) (sym p ∙ e) in omega arith)
+pub asked_short : (frontends : ℕ) (s : List ℕ) → request_refusal frontends s ≡ None → length s ≤ 2048
+asked_short frontends s p = request_short frontends s (λ e. let n : None ≡ Some Layout = sym p ∙ e in cc)

@@ -1,8 +1,9 @@
 -- The refusals of steps 1 to 18, each with its step and its status, 0 and 200 where nothing refuses; and steps 11 to 15, in order. Assumes nothing.
-use Rattle.std.specs.Prelude.{ℕ, eqb, ltb, Bool, not, ◌&&◌, ◌||◌}
+use Rattle.std.specs.Prelude.{ℕ, eqb, ltb, Bool, not, ◌&&◌, ◌||◌, Option, Some, None}
 use Rattle.steps.specs.declared.cases.Case.{Case}
 use Rattle.steps.specs.declared.cases.Case.TheVariants.{Passed, Reading, NoSession, NotLive, State, NotOwner, Transport, Combination, TooManyPids, NotReached, Full}
 use Rattle.refusals.specs.Refusals.{reading_rule}
+use Rattle.refusals.specs.declared.Refusal.{Refusal}
 use Rattle.aim.specs.Aim.{method_number}
 use Rattle.aim.specs.declared.Method.{Method}
 use Rattle.table.specs.Table.{owns}
@@ -21,6 +22,11 @@ rule_of Combination = (16, 403)
 rule_of TooManyPids = (17, 503)
 rule_of NotReached = (17, 503)
 rule_of Full = (18, 503)
+
+-- what the reading of a request comes to: steps 1 to 10
+abbrev pub read_case : Option Refusal → Case
+read_case None = Passed
+read_case (Some refusal) = Reading refusal
 
 abbrev pub is_passed : Case → Bool
 is_passed c = eqb (rule_of c).0 0

@@ -11,5 +11,5 @@ invariant-loop-end l = Clear l.sessions l.end
 abbrev pub decreases-loop-end : goal.decreases-loop-end
 decreases-loop-end l = l.end
 
-abbrev pub invariant-loop-i : goal.invariant-loop-i
-invariant-loop-i l = Seating l.clock l.feeds l.sessions l.i l.numbers l.owners l.opens l.oldest
+abbrev pub invariant-loop-s : goal.invariant-loop-s
+invariant-loop-s l = Seating l.clock l.feeds l.sessions l.s-index l.numbers l.owners l.opens l.oldest
