@@ -13,7 +13,7 @@ use pids::{are_zero, choose, is_padded};
 
 // Document 01's attributes that a stream keeps, as `tuning` codes them: 0 where one is missing.
 #[repr(C)]
-#[derive(Clone, Copy)]
+#[derive(Clone, Copy, PartialEq, Eq, Debug)]
 pub struct Values {
     pub src: u32,
     pub freq: u32,
@@ -28,7 +28,7 @@ pub struct Values {
 
 // One stream's place: live exactly if its frontend is not 0. The fields fill it without a gap, so that every byte belongs to one.
 #[repr(C)]
-#[derive(Clone, Copy)]
+#[derive(Clone, Copy, PartialEq, Eq, Debug)]
 pub struct Stream {
     pub pids: [u16; 32],
     pub values: Values,

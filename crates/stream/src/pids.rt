@@ -151,7 +151,7 @@ fn obey_all<const EDIT: bool>(
 }
 
 // A stream's PIDs while a query is merged: all of them, or the first `count` of a list.
-#[derive(Clone, Copy)]
+#[derive(Clone, Copy, PartialEq, Eq, Debug)]
 pub(crate) struct Pids {
     pub(crate) list: [u16; 32],
     pub(crate) count: usize,

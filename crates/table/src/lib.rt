@@ -16,7 +16,7 @@ use stream::Stream;
 
 // One session's place: free exactly if its number is 0. The fields fill it without a gap, so that every byte belongs to one.
 #[repr(C)]
-#[derive(Clone, Copy)]
+#[derive(Clone, Copy, PartialEq, Eq, Debug)]
 pub struct Session {
     pub number: u32,
     pub address: u32,
@@ -43,7 +43,7 @@ impl Session {
 // What is fixed when a box is made: the journal's size, the frontends, and the set of sources that each of these reaches. The spare bytes are
 // nobody's: they fill the struct.
 #[repr(C)]
-#[derive(Clone, Copy)]
+#[derive(Clone, Copy, PartialEq, Eq, Debug)]
 pub struct Settings {
     pub size: u32,
     pub frontends: u16,
@@ -63,7 +63,7 @@ impl Settings {
 
 // The box: its places, what is fixed, the bytes held of the journal, the clock and the sequence of the next record; and the bytes that fill it.
 #[repr(C)]
-#[derive(Clone, Copy)]
+#[derive(Clone, Copy, PartialEq, Eq, Debug)]
 pub struct SatBox {
     pub sessions: [Session; 32],
     pub streams: [Stream; 8],
