@@ -288,6 +288,12 @@ pub orders_frontend_order : Unique orders_contracts.frontend_order.ended orders.
 orders_frontend_order κs a x y v w = same
 
 -- CLOSINGS
+pub closings_code : Unique closings_contracts.Cause.code.ended closings.Cause.code.Reads.Post
+closings_code κs a x y v w = same
+
+pub closings_event : Unique closings_contracts.Event.new.ended closings.Event.new.Reads.Post
+closings_event κs a x y v w = same
+
 pub closings_write : Unique closings_contracts.write.ended closings.write.Reads.Post
 closings_write κs a x y v w p q = (refl, λ i. (one p q i, (tt, (tt, tt))))
 

@@ -13,7 +13,7 @@ use Rattle.table.specs.declared.SatBox.{SatBox}
 use Rattle.table.proofs.Ids.{stream_at, with_at}
 use Rattle.closings.specs.Closing.{Did, restreamed, reseated, noting, bytes_of}
 use Rattle.closings.specs.Does.{Does}
-use Rattle.closings.specs.Stamps.{stamped_as}
+use Rattle.closings.specs.Stamps.{event_of, stamped_as}
 use Rattle.closings.specs.declared.change.Kind.{Kind}
 use Rattle.serving.specs.Turns.{seated, Seatable}
 use Rattle.serving.specs.declared.opening.Seat.{Seat}
@@ -26,7 +26,7 @@ row_set t id m h = rw (with_at t.streams id m (λ z. omega arith))
 
 -- A SESSION OPENS OR JOINS: it is set at its place, and its record is written behind the bytes held
 pub does_seated : {t : SatBox} {j k : List ℕ} {number : ℕ} (kind : Kind) (s : Seat) → 1 ≤ s.session.stream → number ≡ next_sequence t.sequence
-    → k ≡ written j t.held (encoded (stamped_as (record { held = t.held; clock = t.clock; sequence = t.sequence; frontend = (get_or t.streams (s.session.stream - 1) past_stream).frontend }) (record { kind = kind; session = s.session })))
+    → k ≡ written j t.held (encoded (stamped_as (record { held = t.held; clock = t.clock; sequence = t.sequence; frontend = (get_or t.streams (s.session.stream - 1) past_stream).frontend }) (event_of kind s.session)))
     → Does t j (seated kind s t) (record { sessions = set t.sessions s.place s.session; streams = t.streams; settings = t.settings; held = t.held + 16; clock = t.clock; sequence = number; spare = t.spare }) k
 unfolding noting reseated
 does_seated {t} kind s h n w =
