@@ -1,5 +1,5 @@
 // What the programs read: their input as far as a buffer reaches, its lines, a line's words, and the short form in which a line holds a request.
-// Every function but the first has an answer for all bytes, and looks at each byte at most once, `place_among` once for each word that is as long.
+// Every function but the first has an answer for all bytes and all places, and looks at each byte at most once, `place_among` once for each word that is as long.
 #![tactic(auto)]
 
 ghost use Rattle.std.specs.Io.{ReadsAtMost};
@@ -7,7 +7,7 @@ ghost use Rattle.std.specs.Prelude.{◌≡◌};
 ghost use Rattle.writing.specs.Wrote.{Wrote};
 ghost use Rattle.scan.specs.Text.{before, after, place_among};
 ghost use Rattle.std.specs.Iterator.{YieldsFirstRef, item_count};
-ghost use Rattle.script.specs.Lines.{lines_of, stands_for, unfolded};
+ghost use Rattle.script.specs.Lines.{lines_of, line_at, stands_for, unfolded};
 
 use scan::{Case, Class};
 use std::io::{self, Read};
@@ -36,6 +36,14 @@ fn parted(text: &[u8], separator: u8) -> (&[u8], &[u8])
 {
     let (front, behind) = text.split_at(scan::first_in(text, Class::Is(separator)));
     (front, behind.get(1..).unwrap_or(&[]))
+}
+
+// The line that starts at a place, without its LF; an empty one where the text ends before it.
+pub fn line(s: &[u8], at: usize) -> &[u8]
+    ensures { result.now ≡ line_at at s.now }
+{
+    let left = s.get(at..).unwrap_or(&[]);
+    parted(left, b'\n').0
 }
 
 // What is left of a text, gone through line by line: each comes without its LF, and behind the last LF comes one only where bytes stand.
@@ -98,13 +106,13 @@ pub fn unfold(buf: &mut [u8], s: &[u8]) -> usize
     at
 }
 
-// The place of a text among words that have a space between each two; how many words there are where it is none of them. The pieces are cut at
-// places, as its meaning says it of a text that ends in a space too: an empty word more.
+// The place of a text among words that have a space between each two; how many words there are where it is none of them.
 pub fn place_among(words: &[u8], s: &[u8], case: Case) -> usize
     ensures { result ≡ place_among case words.now s.now }
 {
     let mut n = 0;
     let mut p = 0;
+    // By places: a text that ends in a space, or is empty, has an empty word more, which `Words` does not tell from no word.
     while p <= words.len() {
         let e = scan::first_from(words, p, Class::Is(b' '));
         if scan::are_alike(&words[p..e], s, case) {

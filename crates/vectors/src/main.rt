@@ -1,4 +1,4 @@
-// Runs vectors through `scan`, `digits` and `journal` and writes what they give; the file `stdout` says what that must be. Each line of
+// Runs vectors through `scan`, `digits`, `writing` and `journal` and writes what they give; the file `stdout` says what that must be. Each line of
 // standard input is a text that goes through every reading; the buffers and the records are made here.
 #![tactic(auto)]
 

@@ -13,6 +13,17 @@ const EXAMPLE: Record = Record {
     sequence: 0,
 };
 
+// One of a session that joins, as late as can be.
+const MIXED: Record = Record {
+    kind: 2,
+    cause: 0,
+    clock: u32::MAX,
+    session: 0x1234_5678,
+    stream: 2,
+    frontend: 3,
+    sequence: u16::MAX,
+};
+
 fn record(rt: &impl Print, r: Record) -> io::Result<()> {
     print!(rt;
         "kind {} cause {} clock {} session {}",
@@ -78,54 +89,29 @@ fn kinds(rt: &impl Print) -> io::Result<()> {
     Ok(())
 }
 
+// A closing with its session, stream and frontend at their limits and past them, and a record that joins.
 fn limits(rt: &impl Print) -> io::Result<()> {
-    let closing = Record {
-        kind: 3,
-        cause: 3,
-        ..EXAMPLE
-    };
-    let largest = Record {
-        session: u32::MAX,
-        stream: 8,
-        frontend: 8,
-        ..closing
-    };
-    let mixed = Record {
-        kind: 2,
-        cause: 0,
-        clock: u32::MAX,
-        session: 0x1234_5678,
-        stream: 2,
-        frontend: 3,
-        sequence: u16::MAX,
-    };
-    for r in [
-        Record {
-            session: 0,
-            ..closing
-        },
-        largest,
-        Record {
-            stream: 0,
-            ..closing
-        },
-        Record {
-            stream: 9,
-            ..closing
-        },
-        Record {
-            frontend: 0,
-            ..closing
-        },
-        Record {
-            frontend: 9,
-            ..closing
-        },
-        mixed,
+    for (session, stream, frontend) in [
+        (0, 1, 1),
+        (u32::MAX, 8, 8),
+        (1, 0, 1),
+        (1, 9, 1),
+        (1, 1, 0),
+        (1, 1, 9),
     ] {
-        write(rt, r)?;
+        write(
+            rt,
+            Record {
+                kind: 3,
+                cause: 3,
+                session,
+                stream,
+                frontend,
+                ..EXAMPLE
+            },
+        )?;
     }
-    Ok(())
+    write(rt, MIXED)
 }
 
 fn places(rt: &impl Print) -> io::Result<()> {

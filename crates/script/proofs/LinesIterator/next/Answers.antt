@@ -1,4 +1,4 @@
-use Rattle.std.proofs.Common.{◌≡◌, ap, length, rules}
+use Rattle.std.proofs.Common.{ap, length, rules}
 use Rattle.script.proofs.Reading.{lines_more}
 use Rattle.script.proofs.LinesIterator.next.Goals as goal
 
