@@ -16,12 +16,11 @@ use Rattle.scan.specs.declared.Span.{Span}
 use Rattle.scan.proofs.Bools.{never, by_test, by_cases}
 use Rattle.scan.proofs.Cuts.{cut_start, cut_turn, cut_end}
 use Rattle.scan.proofs.Parts.{part_length, part_part, part_rest, all_same, holds_nothing, some_text}
-use Rattle.std.specs.Prelude.{Option, is_some}
+use Rattle.std.specs.Prelude.{Option, Some, None, is_some}
 use Rattle.tuning.specs.Values.{attribute_of, value_of}
+use Rattle.tuning.specs.Found.{attribute_named}
 use Rattle.aim.specs.Query.{attribute_in, are_parts, code_from, text_in, code_in}
 use Rattle.aim.specs.Found.{is_query, are_within, code_of, text_of, code_among, text_among, is_part, equals, part_value, is_named_before, is_within, start_among, start_of, PartHas, PartIs, QueryIs}
-use Rattle.std.specs.Bool.{then_some}
-use Rattle.scan.proofs.Options.{by_some}
 use Rattle.aim.specs.declared.query.Part.{Part}
 use Rattle.tuning.proofs.Words.{value_none}
 
@@ -32,12 +31,19 @@ part_attribute p {k} f h =
     let n : length (drop (k + 1) p) ≡ length p - (k + 1) = length-drop (k + 1) p in
     rw (← f.is, some_text (drop (k + 1) p) (omega arith))
 
-pub part_whole : (p : List ℕ) {k a : ℕ} → FirstOf (is 61) p k → k + 1 < length p → a ≡ attribute_of (part 0 k p) → PartIs p (then_some (ltb a 13) (record { attribute = a; value = k + 1 }))
-part_whole p {k} {a} f h e =
-    let d : a ≡ attribute_in p = e ∙ sym (part_attribute p f h) in
-    by_some (ltb (attribute_in p) 13 ≡ false) (PartHas p) (ltb a 13) (record { attribute = a; value = k + 1 })
-    (λ y. record { attribute = d; known = rw (← d) y; value = ap (λ j. j + 1) f.is })
-    (λ n. rw (← d) n)
+module _ (p : List ℕ) {k : ℕ} (f : FirstOf (is 61) p k) (h : k + 1 < length p) where
+  named_by_test : (P : Bool → Option ℕ → Type 0) → (ltb (attribute_in p) 13 ≡ true → P true (Some (attribute_in p))) → (ltb (attribute_in p) 13 ≡ false → P false None)
+      → P (ltb (attribute_in p) 13) (attribute_named (part 0 k p))
+  named_by_test P there not_there =
+      rw (← part_attribute p f h) (by_test (λ t. P t (cond t (Some (attribute_in p)) None)) (ltb (attribute_in p) 13) there not_there)
+
+  pub part_whole : {a : ℕ} → Some a ≡ attribute_named (part 0 k p) → PartHas p (record { attribute = a; value = k + 1 })
+  part_whole {a} = named_by_test (λ t o. Some a ≡ o → PartHas p (record { attribute = a; value = k + 1 }))
+      (λ y e. record { attribute = cc; known = y; value = ap (λ j. j + 1) f.is })
+      (λ _ e. cc)
+
+  pub part_unnamed : None ≡ attribute_named (part 0 k p) → ltb (attribute_in p) 13 ≡ false
+  part_unnamed = named_by_test (λ t o. None ≡ o → t ≡ false) (λ _ e. cc) (λ _ _. refl)
 
 pub part_broken : (p : List ℕ) {k : ℕ} → FirstOf (is 61) p k → length p ≤ k + 1 → ltb (attribute_in p) 13 ≡ false
 unfolding attribute_in

@@ -29,8 +29,8 @@ fn part_in(p: &[u8]) -> Option<Part>
     if p.len() <= value {
         return None;
     }
-    let attribute = tuning::attribute_of(&p[0..k]);
-    (attribute < 13).then_some(Part { attribute, value })
+    let attribute = tuning::attribute_of(&p[0..k])?;
+    Some(Part { attribute, value })
 }
 
 // Reads a query that has its form, on a box with so many frontends.

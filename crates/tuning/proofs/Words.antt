@@ -2,21 +2,18 @@
 use mathlib.Core.Path.{◌≡◌, ap, refl, sym, ◌∙◌}
 use mathlib.Core.Bool.{Bool, true, cond, false, not}
 use mathlib.Core.List.{List, [], ◌∷◌, map}
-use Prim.Native.Nat.{ℕ, suc, ◌+◌, ◌≤◌}
-use native.Mathlib.Decide.{dec_lt}
+use Prim.Native.Nat.{ℕ, suc, ◌+◌}
 use denote.Ref.{Bor}
 use Rattle.std.specs.List.{position_or_len}
 use native.Mathlib.Omega.{arith}
 use lib.Dec.{ltb, eqb}
 use lib.ListN.{length, length-map}
-use borrow.Author.Tests.{lt-ltb, le-ltb}
 use Rattle.scan.specs.Lists.{first}
 use Rattle.scan.specs.Text.{cut, place_among}
 use Rattle.scan.specs.Found.{is_word}
 use Rattle.scan.specs.declared.Case.TheVariants.{Counts}
-use Rattle.scan.proofs.Bools.{by_test, by_cases}
-use Rattle.scan.proofs.Loops.{first_within}
-use Rattle.std.specs.Prelude.{Option, Some, None, MatchOption, option_map, unwrap_or}
+use Rattle.scan.proofs.Bools.{by_test}
+use Rattle.std.specs.Prelude.{Option, Some, None, MatchOption, option_map}
 use Rattle.std.specs.Option.{option_or}
 use Rattle.tuning.specs.Found.{place_of, code_of}
 use Rattle.tuning.specs.Values.{word, value_of, frequency, are_pids}
@@ -32,7 +29,7 @@ first_texts p (w ∷ ws) = by_test (λ t. cond (not t) (1 + position_or_len (λ 
 
 -- among the words of a text
 module _ (words : List ℕ) (ws : List (Bor (List ℕ))) (s : List ℕ) (e : texts ws ≡ cut 32 words) where
-  place_is : place_of ws s ≡ cond (ltb (place_among Counts words s) (length (cut 32 words))) (Some (place_among Counts words s)) None
+  pub place_is : place_of ws s ≡ cond (ltb (place_among Counts words s) (length (cut 32 words))) (Some (place_among Counts words s)) None
   unfolding place_of place_among
   place_is =
       let n : length ws ≡ length (cut 32 words) = sym (length-map ws (λ (w : Bor (List ℕ)). w.now)) ∙ ap length e in
@@ -43,15 +40,6 @@ module _ (words : List ℕ) (ws : List (Bor (List ℕ))) (s : List ℕ) (e : tex
       q ∙ ap (option_map (λ k. k + 1)) place_is
       ∙ by_test (λ t. option_map (λ k. k + 1) (cond t (Some (place_among Counts words s)) None) ≡ cond t (Some (place_among Counts words s + 1)) None)
       (ltb (place_among Counts words s) (length (cut 32 words))) (λ _. refl) (λ _. refl)
-
-  pub place_or : {r : Option ℕ} → r ≡ place_of ws s → unwrap_or r (length (cut 32 words)) ≡ place_among Counts words s
-  unfolding place_among
-  place_or q =
-      let k : ℕ = place_among Counts words s in
-      let n : ℕ = length (cut 32 words) in
-      let w : k ≤ n = first_within (is_word Counts s) (cut 32 words) in
-      ap (λ o. unwrap_or o n) (q ∙ place_is)
-      ∙ by_cases (dec_lt k n) (λ l. rw (lt-ltb k n l)) (λ l. rw (le-ltb k n (omega arith)) (omega arith))
 
 pub or_is : (a b : Option ℕ) {r : Option ℕ} → MatchOption a (r ≡ b) (λ v. r ≡ Some v) → r ≡ option_or a b
 or_is (Some v) b e = e

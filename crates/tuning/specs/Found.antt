@@ -1,16 +1,17 @@
 -- What the private functions answer. No call of the box reaches it. Assumes nothing.
-use Rattle.std.specs.Prelude.{ℕ, ◌+◌, ◌*◌, Bool, cond, List, eqb, length, Option, Some, None, is_some, option_map}
+use Rattle.std.specs.Prelude.{ℕ, ◌+◌, ◌*◌, Bool, cond, List, ltb, eqb, length, Option, Some, None, is_some, option_map}
 use Rattle.scan.specs.Lists.{is_between, first}
 use Rattle.digits.specs.Reading.{read_number}
 use Rattle.digits.specs.declared.Zeros.TheVariants.{Allowed}
 use denote.Ref.{Bor}
 use Rattle.std.specs.List.{position}
+use Rattle.tuning.specs.Values.{attribute_of}
 use Rattle.scan.specs.declared.Case.TheVariants.{Counts}
-use Rattle.scan.specs.Text.{is, before, after, has, text, are_alike}
+use Rattle.scan.specs.Text.{is, before, after, has, are_alike}
 
--- the names of the table
-abbrev pub names : List ℕ
-names = text "src fe freq pol msys mtype plts ro sr fec pids addpids delpids"
+-- an attribute by its name, where the table has it
+abbrev pub attribute_named : List ℕ → Option ℕ
+attribute_named name = cond (ltb (attribute_of name) 13) (Some (attribute_of name)) None
 
 -- the place of a text among some words, and the code of that place
 unfoldable pub place_of : List (Bor (List ℕ)) → List ℕ → Option ℕ

@@ -7,8 +7,8 @@ ghost use Rattle.std.specs.Prelude.{◌≡◌, ◌<◌, length};
 ghost use Rattle.scan.specs.Found.{FirstOf};
 ghost use Rattle.scan.specs.Text.{is};
 ghost use Rattle.digits.specs.Reading.{read_number};
-ghost use Rattle.tuning.specs.Values.{attribute_of, plain, frequency, are_pids, pid_list, value_of};
-ghost use Rattle.tuning.specs.Found.{megahertz, tenfold, fraction, hundredths, in_band, is_pid, place_of, code_of};
+ghost use Rattle.tuning.specs.Values.{plain, frequency, are_pids, pid_list, value_of};
+ghost use Rattle.tuning.specs.Found.{attribute_named, megahertz, tenfold, fraction, hundredths, in_band, is_pid, place_of, code_of};
 
 use digits::Zeros;
 use scan::{Case, Class};
@@ -46,11 +46,11 @@ fn place_of(words: &[&[u8]], s: &[u8]) -> Option<usize>
         .position(|word| scan::are_alike(word, s, Case::Counts))
 }
 
-// The place of an attribute's name in document 01's table, or 13 where it has no such name.
-pub fn attribute_of(name: &[u8]) -> usize
-    ensures { result ≡ attribute_of name.now }
+// The place of an attribute's name in document 01's table, where it has such a name.
+pub fn attribute_of(name: &[u8]) -> Option<usize>
+    ensures { result ≡ attribute_named name.now }
 {
-    place_of(&NAMES, name).unwrap_or(NAMES.len())
+    place_of(&NAMES, name)
 }
 
 // The code of a word: its place among the words, counted from 1.
@@ -117,11 +117,7 @@ fn hundredths(s: &[u8], dot: usize) -> Option<u32>
 fn in_band(v: u32) -> Option<u32>
     ensures { result ≡ in_band v }
 {
-    if (1070000 <= v) & (v <= 1275000) {
-        Some(v)
-    } else {
-        None
-    }
+    (1070000..=1275000).contains(&v).then_some(v)
 }
 
 // A frequency: MHz, and perhaps a dot and one or two digits more.
