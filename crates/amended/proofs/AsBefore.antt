@@ -20,7 +20,7 @@ use Rattle.stream.specs.Streams.{blank, is_sound, merge_of}
 use Rattle.stream.proofs.Soundness.{sound_live}
 use Rattle.stream.specs.declared.Stream.{Stream}
 use Rattle.stream.specs.declared.Refusal.{Refusal}
-use Rattle.std.specs.Prelude.{Result}
+use Rattle.std.specs.Prelude.{Result, Option, Some, None}
 use Rattle.std.specs.Result.{result_unwrap_or}
 use Rattle.table.specs.Table.{are_distinct, no_session, is_free, open_count, stream_of, is_live}
 use Rattle.table.specs.Reach.{are_sets}
@@ -34,7 +34,7 @@ use Rattle.steps.specs.Sights.{Asked, Lists, asked_of, lists_of, sight_of}
 use Rattle.steps.specs.Steps.{is_passed, is_named, table_case, read_case}
 use Rattle.steps.specs.declared.Sight.{Sight}
 use Rattle.steps.specs.declared.cases.Case.{Case}
-use Rattle.steps.specs.declared.cases.Case.TheVariants.{Passed, Full}
+use Rattle.steps.specs.declared.cases.Case.TheVariants.{Full}
 use Rattle.serving.specs.Serving.{has_place, has_room, guest, seating_as, can_join, joining, merges, merge_case, is_opening, with_session, kept, seat_after, Serving, granted, denied, client_of}
 use Rattle.serving.specs.declared.opening.Client.{Client}
 use Rattle.amended.proofs.Reaching.{AllReach, full_has, is_free_frontend}
@@ -68,12 +68,12 @@ abbrev pub can_seat_before : SatBox → Sight → Bool
 can_seat_before t v = cond (eqb v.stream 0) (can_open_before (feed_before t v) t) (can_join v.stream t)
 
 -- 11 to 18; 17 knows no src
-abbrev pub case_before : SatBox → Asked → Lists → Case
+abbrev pub case_before : SatBox → Asked → Lists → Option Case
 case_before t a l =
     not (is_passed (table_case (sight_of t a))) gives table_case (sight_of t a) or
     (merges (sight_of t a) && not (is_passed (merge_case (merging_before t a l)))) gives merge_case (merging_before t a l) or
-    (is_opening (sight_of t a) && not (can_seat_before t (sight_of t a))) gives Full or
-    Passed
+    (is_opening (sight_of t a) && not (can_seat_before t (sight_of t a))) gives Some Full or
+    None
 
 abbrev pub opening_before : Stream → Client → SatBox → Did
 opening_before m client t =

@@ -13,15 +13,15 @@ use Rattle.finding.specs.Finding.{choice}
 use Rattle.closings.proofs.Keeping.{Whole, frontends_few}
 use Rattle.steps.specs.Sights.{Asked, Lists, sight_of}
 use Rattle.steps.specs.Steps.{is_passed, looks_up, table_case}
-use Rattle.steps.specs.declared.cases.Case.TheVariants.{Passed}
 use Rattle.serving.specs.Serving.{merges, is_unreached, case_of}
 use Rattle.serving.proofs.Passing.{untested}
 use Rattle.aim.specs.Aim.{method_number}
 use Rattle.aim.specs.declared.Method.{Method}
 use Rattle.aim.specs.declared.Method.TheVariants.{Options, Setup, Play, Teardown, Other}
 use Rattle.stream.specs.Arrays.{are_fit}
-use Rattle.steps.proofs.ReplyLaws.{unread_passed, table_unread}
+use Rattle.steps.proofs.ReplyLaws.{passed_none}
 use Rattle.amended.proofs.Reaching.{Fits, IsChoice, fits_feeds, feeds_fits, choice_is, choice_none, AllReach, is_free_frontend, feeds_if_free, case_without, src_is_reached}
+use Rattle.std.specs.Prelude.{None}
 
 -- THE CHOICE: where a free frontend reaches the src, the one that is chosen is free and reaches it, no other such has a smaller set, and none of
 -- equal size a lower number; where none does, none is chosen
@@ -57,7 +57,7 @@ module _ (t : SatBox) (w : Whole t) (all : AllReach t.settings) (a : Asked) (fit
   looked_up Other k = never k refl
 
   -- a stream whose owner's query is merged is live: 12
-  live_merged : merges (sight_of t a) ≡ true → table_case (sight_of t a) ≡ Passed → (a.stream ≡ 0 → ⊥) → (stream_of t a.stream).frontend ≡ 0 → ⊥
+  live_merged : merges (sight_of t a) ≡ true → table_case (sight_of t a) ≡ None → (a.stream ≡ 0 → ⊥) → (stream_of t a.stream).frontend ≡ 0 → ⊥
   unfolding sight_of
   live_merged m p z q =
       never (rw (looked_up a.method (and_both (eqb (method_number a.method) 1 || eqb (method_number a.method) 2) _ m).0, ne_eqb a.stream 0 z, eq-eqb (stream_of t a.stream).frontend 0 q)) (untested (sight_of t a) p).stream
@@ -67,7 +67,7 @@ module _ (t : SatBox) (w : Whole t) (all : AllReach t.settings) (a : Asked) (fit
   unfolding case_of case_without
   case_without_law l = by (case (is_passed (table_case (sight_of t a))))
     where
-      silent : table_case (sight_of t a) ≡ Passed → Test (merges (sight_of t a)) → Same a.stream 0 → (merges (sight_of t a) && (not (eqb a.stream 0) && is_unreached (sight_of t a))) ≡ false
+      silent : table_case (sight_of t a) ≡ None → Test (merges (sight_of t a)) → Same a.stream 0 → (merges (sight_of t a) && (not (eqb a.stream 0) && is_unreached (sight_of t a))) ≡ false
       silent p (isnt n) c = rw n
       silent p (is m) (same z) = rw (m, z)
       silent p (is m) (other z) = rw (m, src_is_reached t w all a fit (live_merged m p z), and-false (not (eqb a.stream 0)))
@@ -75,5 +75,5 @@ module _ (t : SatBox) (w : Whole t) (all : AllReach t.settings) (a : Asked) (fit
       by : Test (is_passed (table_case (sight_of t a))) → case_of t a l ≡ case_without t a l
       by (isnt n) = rw n
       by (is y) =
-          let p = unread_passed (table_case (sight_of t a)) (table_unread (sight_of t a)) y in
+          let p = passed_none (table_case (sight_of t a)) y in
           rw (silent p (case _) (sames _ 0))

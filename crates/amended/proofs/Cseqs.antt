@@ -23,21 +23,20 @@ use Rattle.writing.proofs.Numerals.{decimal_bare, read_decimal}
 use Rattle.lines.specs.Lines.{lines, is_laid_out, request_line, header_lines}
 use Rattle.lines.specs.Headers.{values_of}
 use Rattle.target.specs.Line.{is_three, line_part}
-use Rattle.target.specs.Uri.{host_of}
 use Rattle.refusals.specs.Refusals as reading
 use Rattle.refusals.specs.declared.Refusal.{Refusal}
 use Rattle.refusals.specs.declared.Refusal.TheVariants as refusal
 use Rattle.aim.specs.Aim.{uri_refusal, method_number}
 use Rattle.reader.specs.Request.{cseq_of, method_of, uri_of, is_twice, head_refusal, request_refusal}
-use Rattle.answer.specs.Lines.{reason_of, line, cseq_line, refused_lines}
+use Rattle.answer.specs.Lines.{reason_of, line, cseq_line}
 use Rattle.answer.proofs.Fits.{reason_keeps}
 use Rattle.table.specs.Table.{no_session}
 use Rattle.table.specs.declared.Session.{Session}
 use Rattle.table.specs.declared.SatBox.{SatBox}
 use Rattle.closings.specs.Closing.{sweeping}
 use Rattle.steps.specs.Sights.{asked_of, lists_of}
-use Rattle.steps.specs.Steps.{rule_of, is_passed, read_case}
-use Rattle.steps.specs.Replies.{granted_lines, reply_text}
+use Rattle.steps.specs.Steps.{status_of, read_case}
+use Rattle.steps.specs.Replies.{reply_text, reply_lines}
 use Rattle.steps.specs.declared.cases.Case.{Case}
 use Rattle.steps.specs.declared.cases.Case.TheVariants.{Reading}
 use Rattle.steps.proofs.ReplyLaws.{status_small}
@@ -78,10 +77,10 @@ served_before s address draw t =
 unfoldable pub requested_before : List ℕ → ℕ → ℕ → ℕ → SatBox → Serving
 requested_before s clock address draw t = following (sweeping clock t) (served_before s address draw (sweeping clock t).satbox)
 
-unfoldable pub reply_before : Case → List ℕ → Session → List ℕ
+unfoldable pub reply_before : Option Case → List ℕ → Session → List ℕ
 reply_before c s session =
-    text "RTSP/1.0 " & decimal (rule_of c).1 & line " " (text (reason_of (rule_of c).1)) & cseq_before (number_before s)
-    & cond (is_passed c) (granted_lines (method_of s) (host_of (uri_of s)) session) (refused_lines (rule_of c).0 (get_or (values_of 3 (header_lines s)) 0 []))
+    text "RTSP/1.0 " & decimal (status_of c) & line " " (text (reason_of (status_of c))) & cseq_before (number_before s)
+    & reply_lines c s session
     & text "\r\n"
 
 unfoldable pub answer_before : List ℕ → ℕ → ℕ → ℕ → SatBox → List ℕ
@@ -178,21 +177,21 @@ text_both [] y p q = q
 text_both (z ∷ x) y p q = let m = and_both (is_text z) (all is_text x) p in rw (m.0, text_both x y m.1 q)
 
 -- the first line of an answer; what stands before the digits of CSeq, and what behind them
-abbrev pub status_text : Case → List ℕ
-status_text c = text "RTSP/1.0 " & decimal (rule_of c).1 & text " " & text (reason_of (rule_of c).1)
+abbrev pub status_text : Option Case → List ℕ
+status_text c = text "RTSP/1.0 " & decimal (status_of c) & text " " & text (reason_of (status_of c))
 
-abbrev pub front_of : Case → List ℕ
+abbrev pub front_of : Option Case → List ℕ
 front_of c = status_text c & text "\r\nCSeq: "
 
-abbrev pub back_of : Case → List ℕ → Session → List ℕ
+abbrev pub back_of : Option Case → List ℕ → Session → List ℕ
 back_of c s session =
     text "\r\n"
-    & cond (is_passed c) (granted_lines (method_of s) (host_of (uri_of s)) session) (refused_lines (rule_of c).0 (get_or (values_of 3 (header_lines s)) 0 []))
+    & reply_lines c s session
     & text "\r\n"
 
-status_text_law : (c : Case) → all is_text (status_text c) ≡ true
+status_text_law : (c : Option Case) → all is_text (status_text c) ≡ true
 status_text_law c =
-    let v = (rule_of c).1 in
+    let v = status_of c in
     text_both (decimal v) (text " " & text (reason_of v)) (digits_text (decimal v) (decimal_is v (omega (arith, status_small c))).are) (reason_text v)
 
 in_place : (code reason digits more : List ℕ)
@@ -207,14 +206,14 @@ number_sent s n = by (sending s)
     by (none e f) = never (ap is_empty e) n
     by (some d f) = f
 
-module _ (c : Case) (s : List ℕ) (session : Session) (n : is_empty (cseq_of s) ≡ false) where
+module _ (c : Option Case) (s : List ℕ) (session : Session) (n : is_empty (cseq_of s) ≡ false) where
   reply_in_place : reply_text c s session ≡ front_of c & cseq_of s & back_of c s session
   unfolding reply_text
-  reply_in_place = rw n (in_place (decimal (rule_of c).1) (text (reason_of (rule_of c).1)) (cseq_of s) _)
+  reply_in_place = rw n (in_place (decimal (status_of c)) (text (reason_of (status_of c))) (cseq_of s) _)
 
   before_in_place : reply_before c s session ≡ front_of c & decimal (spelled 10 (cseq_of s)) & back_of c s session
   unfolding reply_before
-  before_in_place = rw (number_sent s n) (in_place (decimal (rule_of c).1) (text (reason_of (rule_of c).1)) (decimal (spelled 10 (cseq_of s))) _)
+  before_in_place = rw (number_sent s n) (in_place (decimal (status_of c)) (text (reason_of (status_of c))) (decimal (spelled 10 (cseq_of s))) _)
 
   second_line : all is_digit (cseq_of s) ≡ true → get_or (lines (reply_text c s session)) 1 [] ≡ text "CSeq: " & cseq_of s
   second_line d =
@@ -236,7 +235,7 @@ unfolding head_refusal
 uncounted s y e = rw (y, e)
 
 abbrev Bad : List ℕ → Refusal → Type 0
-Bad s r = reply_text (Reading r) s no_session ≡ text "RTSP/1.0 400 Bad Request\r\n\r\n"
+Bad s r = reply_text (Some (Reading r)) s no_session ≡ text "RTSP/1.0 400 Bad Request\r\n\r\n"
 
 early_text : (s : List ℕ) → cseq_of s ≡ [] → Bad s refusal.Layout × Bad s refusal.CSeq
 unfolding reply_text reason_of decimal width numeral
@@ -278,7 +277,7 @@ module _ (s : List ℕ) (clock address draw : ℕ) (t : SatBox) where
       rw (← e) (second_line turn.case s turn.session (sent e d) (rw e d.are))
 
   -- AND NO OTHER ANSWER CARRIES ONE
-  refused_early : (r : Refusal) → head_refusal s ≡ Some r → answer_of s clock address draw t ≡ reply_text (Reading r) s no_session
+  refused_early : (r : Refusal) → head_refusal s ≡ Some r → answer_of s clock address draw t ≡ reply_text (Some (Reading r)) s no_session
   unfolding answer_of requested answered
   refused_early r h = rw (refusal_early (sweeping clock t).satbox.settings.frontends s r h)
 

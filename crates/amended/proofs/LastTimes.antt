@@ -11,7 +11,7 @@ use lib.ListN.{get_or, set}
 use lib.Seq.{get_or-set_other, map-set_same, set-set}
 use borrow.Author.Tests.{eqb-true, lt-ltb, le-ltb, ltb-true}
 use Rattle.std.specs.Prelude.{None, Option, Some}
-use Rattle.scan.proofs.Bools.{never, Case as Test, is, isnt, case, Same, same, other, sames, or_neither}
+use Rattle.scan.proofs.Bools.{never, Case as Test, is, isnt, case, Same, same, other, sames}
 use Rattle.refusals.specs.Refusals as reading
 use Rattle.refusals.specs.declared.Refusal.{Refusal}
 use Rattle.refusals.specs.declared.Refusal.TheVariants as refusal
@@ -30,7 +30,7 @@ use Rattle.steps.specs.Sights.{Asked, Lists, asked_of, lists_of, is_absent, plac
 use Rattle.steps.specs.Steps.{rule_of, is_passed, is_setup, is_named, table_case, read_case}
 use Rattle.steps.specs.Replies.{reply_text}
 use Rattle.steps.specs.declared.cases.Case.{Case}
-use Rattle.steps.specs.declared.cases.Case.TheVariants.{Passed, NoSession}
+use Rattle.steps.specs.declared.cases.Case.TheVariants.{NoSession}
 use Rattle.serving.specs.Serving.{stream_after, merges, case_of, with_session, kept, seat_after, Serving, granted, retuned, retuning, grant, denied, served, client_of, answered}
 use Rattle.serving.specs.declared.opening.Client.{Client}
 use Rattle.serving.proofs.Kept.{seat, since, kept_by, kept_named, kept_alone, kept_place}
@@ -43,13 +43,19 @@ use Rattle.promises.proofs.Naming.{names_keeps}
 use Rattle.amended.proofs.Eleven.{case_late}
 
 -- A REQUEST "PASSES STEP 11": no step refuses it, or a later one does
-abbrev pub passes_eleven : Case → Bool
-passes_eleven c = is_passed c || ltb 11 (rule_of c).0
+abbrev pub passes_eleven : Option Case → Bool
+passes_eleven None = true
+passes_eleven (Some c) = ltb 11 (rule_of c).0
 
 -- a Session header that names no open session is refused at step 11
-eleven_refuses : (t : SatBox) (a : Asked) (l : Lists) → is_named (sight_of t a) ≡ false → is_absent a.session ≡ false → case_of t a l ≡ NoSession
+eleven_refuses : (t : SatBox) (a : Asked) (l : Lists) → is_named (sight_of t a) ≡ false → is_absent a.session ≡ false → case_of t a l ≡ Some NoSession
 unfolding case_of table_case sight_of
 eleven_refuses t a l n sent = rw (n, sent)
+
+-- what is refused there does not pass
+unpassed : (c : Option Case) → passes_eleven c ≡ false → is_passed c ≡ false
+unpassed None n = never refl n
+unpassed (Some c) n = refl
 
 -- steps 1 to 10 come before
 early : (r : Option Refusal) → reading.is_read r ≡ false → passes_eleven (read_case r) ≡ false
@@ -139,12 +145,9 @@ module _ (s : List ℕ) (address draw : ℕ) (t : SatBox) where
   pub early_sets_nothing : passes_eleven done.case ≡ false → done.did ≡ nothing t
   early_sets_nothing n = by (case (is_named (sight_of t asked))) (case (reading.is_read (request_refusal t.settings.frontends s)))
     where
-      unpassed : is_passed done.case ≡ false
-      unpassed = (or_neither (is_passed done.case) _ n).0
-
       by : Test (is_named (sight_of t asked)) → Test (reading.is_read (request_refusal t.settings.frontends s)) → done.did ≡ nothing t
-      by d (isnt m) = answered_still s address draw t unpassed ∙ rw m
-      by (isnt m) (is y) = answered_still s address draw t unpassed ∙ rw (y, kept_alone asked t m)
+      by d (isnt m) = answered_still s address draw t (unpassed done.case n) ∙ rw m
+      by (isnt m) (is y) = answered_still s address draw t (unpassed done.case n) ∙ rw (y, kept_alone asked t m)
       by (is z) (is y) =
           let p : passes_eleven done.case ≡ true = rw (answered_case s address draw t (passed_is _ y)) (case_late t asked (lists_of s) z) in
           never p n
@@ -286,7 +289,7 @@ module _ (a : Asked) (t : SatBox) where
     unfolding served served_before
     served_unnamed n = rw (case_kept a t l, grant_unnamed n a.method, kept_alone a t n)
 
-    served_options : a.method ≡ Options → case_of t a l ≡ Passed → (served (kept a t) a l client).did ≡ (served_before t a l client).did
+    served_options : a.method ≡ Options → case_of t a l ≡ None → (served (kept a t) a l client).did ≡ (served_before t a l client).did
     unfolding served served_before
     served_options e p = rw (case_kept a t l, p) (subst (λ m. (grant m (kept a t) a l client).did ≡ (grant_before m t a l client).did) (sym e) refl)
 

@@ -21,14 +21,13 @@ use Rattle.stream.specs.Arrays.{are_fit}
 use Rattle.stream.specs.declared.Stream.{Stream}
 use Rattle.stream.specs.declared.Refusal.{Refusal}
 use Rattle.stream.specs.declared.Refusal.TheVariants.{Combination, TooMany}
-use Rattle.std.specs.Prelude.{Result, Ok, Err}
+use Rattle.std.specs.Prelude.{Result, Ok, Err, None}
 use Rattle.table.specs.declared.SatBox.{SatBox}
 use Rattle.finding.specs.Finding.{lowest_id, is_held, can_feed, choice}
 use Rattle.closings.specs.Closing.{restreamed}
 use Rattle.closings.proofs.Keeping.{Whole}
 use Rattle.steps.specs.Sights.{Asked, Lists, asked_of, lists_of, sight_of}
 use Rattle.steps.specs.Steps.{is_passed, is_named, read_case}
-use Rattle.steps.specs.declared.cases.Case.TheVariants.{Passed}
 use Rattle.serving.specs.Serving.{has_place, has_room, guest, can_join, joining, can_open, opening, source_of, feed_of, merging, stream_after, merge_case, can_seat, case_of, kept, Serving, granted, retuning, grant, denied, served, client_of, answered}
 use Rattle.serving.specs.declared.opening.Client.{Client}
 use Rattle.amended.proofs.Reaching.{AllReach, is_free_frontend, feeds_if_free, new_range, case_without}
@@ -36,9 +35,8 @@ use Rattle.amended.proofs.Choosing.{lowest_free_taken, case_without_law}
 use Rattle.promises.proofs.Passing.{Changing, through, can_open_law, new_merged}
 use Rattle.serving.proofs.Kept.{kept_settings, kept_whole}
 use Rattle.serving.proofs.Branching.{merging_feed, merging_src}
-use Rattle.steps.proofs.ReplyLaws.{unread_passed}
+use Rattle.steps.proofs.ReplyLaws.{passed_none}
 use Rattle.steps.proofs.Telling.{asked_fit}
-use Rattle.satbox.proofs.RequestLaws.{case_unread}
 use Rattle.amended.proofs.AsBefore.{lowest_frontend, feed_before, merging_before, queried_before, can_open_before, can_seat_before, case_before, opening_before, retuning_before, grant_before, served_before, answered_before, lowest}
 
 -- what becomes of a query, by the two rules that may refuse it, is the same for any streams
@@ -144,7 +142,7 @@ module _ (t : SatBox) (w : Whole t) (reach : AllReach t.settings) where
         by (same z) = rw z
         by (other z) = rw (ne_eqb a.stream 0 z)
 
-    module _ (client : Client) (passed : case_of t a l ≡ Passed) where
+    module _ (client : Client) (passed : case_of t a l ≡ None) where
       changing : Changing t a l
       changing = (through t a l passed).1
 
@@ -181,7 +179,7 @@ module _ (t : SatBox) (w : Whole t) (reach : AllReach t.settings) where
         by (isnt n) = let m = sym (ap is_passed case_alike) ∙ n in rw (n, m, case_alike)
         by (is y) =
             let m = sym (ap is_passed case_alike) ∙ y in
-            rw (y, m) (grant_alike client (unread_passed (case_of t a l) (case_unread t a l) y) a.method refl)
+            rw (y, m) (grant_alike client (passed_none (case_of t a l) y) a.method refl)
 
 -- ANY REQUEST, of any bytes s: steps 1 to 18 on a swept table of such a box give document 01's session, case, table and records, and with these its answer
 pub answered_as_before : (s : List ℕ) (address draw : ℕ) (t : SatBox) → Whole t → AllReach t.settings → answered s address draw t ≡ answered_before s address draw t

@@ -20,7 +20,7 @@ use Rattle.closings.proofs.Keeping.{Whole}
 use Rattle.steps.specs.Sights.{Asked, Lists, sight_of}
 use Rattle.steps.specs.Steps.{is_passed, is_setup, is_named, table_case}
 use Rattle.steps.specs.declared.cases.Case.{Case}
-use Rattle.steps.specs.declared.cases.Case.TheVariants.{Passed, NotReached, Full}
+use Rattle.steps.specs.declared.cases.Case.TheVariants.{NotReached, Full}
 use Rattle.serving.specs.Serving.{source_of, merging, merges, merge_case, is_unreached, is_opening, can_seat, case_of}
 use Rattle.std.specs.Result.{IsOk}
 use Rattle.stream.specs.Values.{given}
@@ -29,6 +29,7 @@ use Rattle.stream.specs.Streams.{is_sound}
 use Rattle.stream.specs.Arrays.{is_in_range, is_fit, are_fit}
 use Rattle.stream.proofs.Soundness.{sound_live}
 use Rattle.table.proofs.Rules.{placed_sound}
+use Rattle.std.specs.Prelude.{Option, Some, None}
 
 -- a free frontend of the box that reaches the source
 pub record Fits (t : SatBox) (source f : ℕ) : Type 0 where
@@ -144,7 +145,7 @@ stream_reached t w id live = or_second _ _ (and_both (is_sound t.settings.fronte
 
 -- STEP 17 FOR A SRC, whatever the sets: of an owner's query that steps 11 to 16 and the PIDs of 17 let through, a src that is given is refused exactly
 -- if the frontend held does not reach it
-module _ (t : SatBox) (a : Asked) (l : Lists) (passed : table_case (sight_of t a) ≡ Passed) (owner : merges (sight_of t a) ≡ true) (named : is_named (sight_of t a) ≡ true) (some : a.stream ≡ 0 → ⊥) (merged : IsOk (merging t a l)) where
+module _ (t : SatBox) (a : Asked) (l : Lists) (passed : table_case (sight_of t a) ≡ None) (owner : merges (sight_of t a) ≡ true) (named : is_named (sight_of t a) ≡ true) (some : a.stream ≡ 0 → ⊥) (merged : IsOk (merging t a l)) where
   src_seen : (sight_of t a).src ≡ get_or a.codes 0 0
   unfolding sight_of
   src_seen = refl
@@ -153,13 +154,13 @@ module _ (t : SatBox) (a : Asked) (l : Lists) (passed : table_case (sight_of t a
   unfolding sight_of
   reach_seen = refl
 
-  pub unreached_is_refused : (get_or a.codes 0 0 ≡ 0 → ⊥) → has_source (set_of t.settings (stream_of t a.stream).frontend) (get_or a.codes 0 0) ≡ false → case_of t a l ≡ NotReached
+  pub unreached_is_refused : (get_or a.codes 0 0 ≡ 0 → ⊥) → has_source (set_of t.settings (stream_of t a.stream).frontend) (get_or a.codes 0 0) ≡ false → case_of t a l ≡ Some NotReached
   unfolding case_of
   unreached_is_refused given n =
       let u : is_unreached (sight_of t a) ≡ true = rw (src_seen, reach_seen, ne_eqb _ 0 given, n) in
       rw (passed, merged_passes (merging t a l) merged, u, owner, ne_eqb a.stream 0 some)
 
-  pub reached_passes : has_source (set_of t.settings (stream_of t a.stream).frontend) (get_or a.codes 0 0) ≡ true → case_of t a l ≡ Passed
+  pub reached_passes : has_source (set_of t.settings (stream_of t a.stream).frontend) (get_or a.codes 0 0) ≡ true → case_of t a l ≡ None
   unfolding case_of
   reached_passes y =
       let u : is_unreached (sight_of t a) ≡ false = rw (src_seen, reach_seen, y, and-false (not (eqb (get_or a.codes 0 0) 0))) in
@@ -208,12 +209,12 @@ module _ (t : SatBox) (all : AllReach t.settings) (source : ℕ) (low : 1 ≤ so
       by (isnt n) = rw n
 
 -- STEPS 11 TO 18 WITHOUT A SRC AT 17, as document 01 has them
-unfoldable pub case_without : SatBox → Asked → Lists → Case
+unfoldable pub case_without : SatBox → Asked → Lists → Option Case
 case_without t a l =
     not (is_passed (table_case (sight_of t a))) gives table_case (sight_of t a) or
     (merges (sight_of t a) && not (is_passed (merge_case (merging t a l)))) gives merge_case (merging t a l) or
-    (is_opening (sight_of t a) && not (can_seat t (sight_of t a))) gives Full or
-    Passed
+    (is_opening (sight_of t a) && not (can_seat t (sight_of t a))) gives Some Full or
+    None
 
 module _ (t : SatBox) (w : Whole t) (all : AllReach t.settings) (a : Asked) (fit : are_fit a.codes ≡ true) where
   -- what was read of a src is none, or 1 to 4

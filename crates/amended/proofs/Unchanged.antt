@@ -23,6 +23,7 @@ use Rattle.serving.proofs.Kept.{seat}
 use Rattle.satbox.specs.Calls.{requested, answer_of}
 use Rattle.promises.proofs.Keeps.{kept_is_named, kept_closes, case_kept}
 use Rattle.amended.proofs.LastTimes.{asked, grant_before, served_before, answered_before, answer_before as answer_then, ageless, timeless, ButLast, kept_timeless, kept_ageless, retuning_but, served_unnamed}
+use Rattle.std.specs.Prelude.{Option, Some, None}
 
 module _ (a : Asked) (t : SatBox) where
   module _ (l : Lists) (client : Client) where
@@ -53,9 +54,10 @@ lines_ageless Play host x = refl
 lines_ageless Teardown host x = refl
 lines_ageless Other host x = refl
 
-text_ageless : (c : Case) (s : List ℕ) (x : Session) → reply_text c s x ≡ reply_text c s (ageless x)
+text_ageless : (c : Option Case) (s : List ℕ) (x : Session) → reply_text c s x ≡ reply_text c s (ageless x)
 unfolding reply_text
-text_ageless c s x = rw (lines_ageless (method_of s) (host_of (uri_of s)) x)
+text_ageless None s x = rw (lines_ageless (method_of s) (host_of (uri_of s)) x)
+text_ageless (Some c) s x = refl
 
 -- AS BEFORE, of any request on any table that was swept
 module _ (s : List ℕ) (address draw : ℕ) where

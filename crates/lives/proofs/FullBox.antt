@@ -6,7 +6,7 @@ use mathlib.Core.List.{List, [], ◌∷◌, map}
 use native.Mathlib.Omega.{arith}
 use lib.ListN.{length, replicate}
 use borrow.Author.Tests.{eq-eqb}
-use Rattle.std.specs.Prelude.{None}
+use Rattle.std.specs.Prelude.{None, Option, Some}
 use Rattle.refusals.specs.declared.Refusal.TheVariants as refusal
 use Rattle.reader.specs.Request.{request_refusal}
 use Rattle.journal.specs.Records.{record_size}
@@ -14,9 +14,9 @@ use Rattle.table.specs.Table.{open_count}
 use Rattle.table.specs.Made.{settings_of}
 use Rattle.table.specs.declared.SatBox.{SatBox}
 use Rattle.steps.specs.Sights.{asked_of, lists_of}
-use Rattle.steps.specs.Steps.{rule_of}
+use Rattle.steps.specs.Steps.{status_of}
 use Rattle.steps.specs.declared.cases.Case.{Case}
-use Rattle.steps.specs.declared.cases.Case.TheVariants.{Passed, Full}
+use Rattle.steps.specs.declared.cases.Case.TheVariants.{Full}
 use Rattle.closings.specs.Closing.{sweeping}
 use Rattle.satbox.specs.Calls.{requested, replied}
 use Rattle.closings.proofs.Keeping.{whole_formed}
@@ -48,13 +48,13 @@ swept n = (sweeping 0 (life n).satbox).satbox
 
 -- n ROUNDS AND THE EXAMPLE ONCE MORE: what statement 5 asks for, which are the first three; the bytes held, 16 for each open session and 32; and what
 -- the example comes to
-pub record Meets (n room : ℕ) (case : Case) (status : ℕ) : Type 0 where
+pub record Meets (n room : ℕ) (case : Option Case) (status : ℕ) : Type 0 where
   pub lives : Lives (settings_of 2 1024) journal (calls n)
   pub read : request_refusal 2 example ≡ None
   pub else : PassesElse (swept n) (asked_of 2 example) (lists_of example)
   pub needed : (swept n).held + record_size * open_count (swept n) + 2 * record_size ≡ room
   pub is : (requested example 0 home 1 (life n).satbox).case ≡ case
-  pub answered : (rule_of case).1 ≡ status
+  pub answered : status_of case ≡ status
 
 -- a request that is lent the box's journal and a long enough buffer does what it is to do, and so do any in a row
 asking_does : {x : Life} → Good (settings_of 2 1024) x → (s : List ℕ) → (live (asking s) x).satbox ≡ (requested s 0 home 1 x.satbox).did.satbox
@@ -95,26 +95,26 @@ module _ (n : ℕ) (lives : Lives (settings_of 2 1024) journal (calls n)) (leads
   needs : (swept n).held + record_size * open_count (swept n) + 2 * record_size ≡ 32 * n + 32
   needs = ap (λ t. t.held + 16 * open_count t + 32) swept_idle ∙ omega arith
 
-  meets : (case : Case) → (requested example 0 home 1 (life n).satbox).case ≡ case → Meets n (32 * n + 32) case (rule_of case).1
+  meets : (case : Option Case) → (requested example 0 home 1 (life n).satbox).case ≡ case → Meets n (32 * n + 32) case (status_of case)
   meets case e = record { lives = lives; read = example_read; else = passes_else; needed = needs; is = e; answered = refl }
 
-  meets_passed : 32 * n + 32 ≤ 1024 → Meets n (32 * n + 32) Passed 200
+  meets_passed : 32 * n + 32 ≤ 1024 → Meets n (32 * n + 32) None 200
   meets_passed h =
-      meets Passed (passed_with_room (settings_of 2 1024) journal (calls n) lives example 0 home 1 example_read passes_else (omega (arith, needs)))
+      meets None (passed_with_room (settings_of 2 1024) journal (calls n) lives example 0 home 1 example_read passes_else (omega (arith, needs)))
 
-  meets_full : 1024 < 32 * n + 32 → Meets n (32 * n + 32) Full 503
+  meets_full : 1024 < 32 * n + 32 → Meets n (32 * n + 32) (Some Full) 503
   meets_full h =
-      meets Full ((refused_for_room (settings_of 2 1024) journal (calls n) lives example 0 home 1 example_read passes_else).1 (omega (arith, needs)))
+      meets (Some Full) ((refused_for_room (settings_of 2 1024) journal (calls n) lives example 0 home 1 example_read passes_else).1 (omega (arith, needs)))
 
 -- GRANTED AT THE LAST BYTE: after 31 rounds 992 bytes are held, and with 32 they are C
-pub granted : Meets 31 1024 Passed 200
+pub granted : Meets 31 1024 None 200
 unfolding meanings
 granted =
     meets_passed 31 (record { sizes = refl; journal = refl; calls = refl }) refl refl
     (record { opening = refl; seen = refl; query = refl; src = refl; place = refl; frontend = λ z. refl }) (omega arith)
 
 -- REFUSED FOR ROOM ALONE, step 18: after 32 rounds C bytes are held
-pub refused : Meets 32 1056 Full 503
+pub refused : Meets 32 1056 (Some Full) 503
 unfolding meanings
 refused =
     meets_full 32 (record { sizes = refl; journal = refl; calls = refl }) refl refl

@@ -1,7 +1,7 @@
 -- THE LIFE OF A BOX, in seven statements: for every F and C in range, every first journal of C bytes and every sequence of calls that a caller may make
 -- (`Lives`, `is_call`), of the box, the journal and the history after them (`life_after`, the fold of the calls' meanings from a fresh box).
 -- Every call of a life is one that comes after others, so what holds after every sequence holds after every call. Assumes nothing.
-use Rattle.std.specs.Prelude.{Ok}
+use Rattle.std.specs.Prelude.{Ok, Some}
 use mathlib.Core.Path.{◌≡◌, sym, ◌∙◌, ap, subst}
 use mathlib.Core.Bool.{true, false}
 use mathlib.Core.List.{List, [], ◌∷◌, ◌++◌, map}
@@ -26,7 +26,7 @@ use Rattle.table.specs.declared.Settings.{Settings}
 use Rattle.table.specs.declared.SatBox.{SatBox}
 use Rattle.steps.specs.Sights.{asked_of, lists_of}
 use Rattle.steps.specs.Steps.{is_passed}
-use Rattle.steps.specs.declared.cases.Case.TheVariants.{Passed, Full}
+use Rattle.steps.specs.declared.cases.Case.TheVariants.{Full}
 use Rattle.closings.specs.Closing.{bytes_of, Did, is_expired, at_clock, sweeping}
 use Rattle.satbox.specs.Calls.{requested, replied}
 use Rattle.amended.proofs.Reaching.{AllReach}
@@ -225,12 +225,12 @@ module _ (settings : Settings) (j : List ℕ) (cs : List Call) where
 
       module _ (read : request_refusal settings.frontends s ≡ None) (else : PassesElse u (asked_of settings.frontends s) (lists_of s)) where
         -- is refused for journal room, step 18, exactly if bytes held, plus 16 for each open session, plus 32, exceed C; both directions
-        pub refused_for_room : ((requested s clock address draw x.satbox).case ≡ Full) ↔ (settings.size < u.held + record_size * open_count u + 2 * record_size)
+        pub refused_for_room : ((requested s clock address draw x.satbox).case ≡ Some Full) ↔ (settings.size < u.held + record_size * open_count u + 2 * record_size)
         unfolding requested
         refused_for_room = refused_exactly settings s address draw u (swept_set h clock) read else
 
         -- and else it passes
-        pub passed_with_room : u.held + record_size * open_count u + 2 * record_size ≤ settings.size → (requested s clock address draw x.satbox).case ≡ Passed
+        pub passed_with_room : u.held + record_size * open_count u + 2 * record_size ≤ settings.size → (requested s clock address draw x.satbox).case ≡ None
         unfolding requested
         passed_with_room = passed_exactly settings s address draw u (swept_set h clock) read else
 

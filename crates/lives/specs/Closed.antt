@@ -13,7 +13,6 @@ use Rattle.table.specs.declared.Session.{Session}
 use Rattle.table.specs.declared.SatBox.{SatBox}
 use Rattle.steps.specs.Sights.{session_number, place_named, sight_of, Asked, Lists}
 use Rattle.steps.specs.Steps.{is_passed, table_case}
-use Rattle.steps.specs.declared.cases.Case.TheVariants.{Passed}
 use Rattle.closings.specs.Closing.{record_of, is_expired, sweeping}
 use Rattle.serving.specs.Serving.{has_place, source_of, feed_of, merging, merges, merge_case, is_unreached, is_opening}
 use Rattle.finding.specs.Finding.{can_feed}
@@ -117,7 +116,7 @@ pub data Ends (t : SatBox) (i : ℕ) : Call → Type 0 where
 -- or does not reach it"
 pub record PassesElse (t : SatBox) (a : Asked) (l : Lists) : Type 0 where
   pub opening : is_opening (sight_of t a) ≡ true
-  pub seen : table_case (sight_of t a) ≡ Passed
+  pub seen : table_case (sight_of t a) ≡ None
   pub query : merges (sight_of t a) && not (is_passed (merge_case (merging t a l))) ≡ false
   pub src : merges (sight_of t a) && (not (eqb a.stream 0) && is_unreached (sight_of t a)) ≡ false
   pub place : has_place t ≡ true

@@ -1,6 +1,7 @@
 -- Requests as they are tried at the edges, the box that they are sent to, and what each gets. Assumes nothing.
 use Prim.Native.Nat.{ℕ}
 use mathlib.Core.List.{List, [], ◌∷◌}
+use Rattle.std.specs.Prelude.{Option, Some, None}
 use Rattle.scan.specs.Text.{text, ◌&◌}
 use Rattle.table.specs.Made.{settings_of, fresh}
 use Rattle.table.specs.declared.SatBox.{SatBox}
@@ -57,14 +58,15 @@ abbrev pub home : ℕ
 home = 0xC0A8B227
 
 -- THE ANSWERS: the step that refuses, 0 where none does, and the status
-abbrev pub verdict_of : Case → ℕ × ℕ
-verdict_of case = rule_of case
+abbrev pub passes : ℕ × ℕ
+passes = (0, 200)
+
+abbrev pub verdict_of : Option Case → ℕ × ℕ
+verdict_of None = passes
+verdict_of (Some case) = rule_of case
 
 abbrev pub verdict : Serving → ℕ × ℕ
 verdict x = verdict_of x.case
-
-abbrev pub passes : ℕ × ℕ
-passes = (0, 200)
 
 -- one request at clock 0 and with draw 1
 abbrev pub ask : List ℕ → SatBox → Serving

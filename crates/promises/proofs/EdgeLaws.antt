@@ -7,7 +7,7 @@ use mathlib.Core.List.{List, [], ◌∷◌, map}
 use native.Mathlib.Omega.{arith}
 use lib.Dec.{eqb}
 use borrow.Author.Tests.{not-true, ne_eqb, eqb-true}
-use Rattle.std.specs.Prelude.{Some, None}
+use Rattle.std.specs.Prelude.{Some, None, Option}
 use Rattle.scan.specs.Lists.{all}
 use Rattle.scan.proofs.Bools.{Case as Test, case, is, isnt, Same, sames, same, other, and_both, or_second}
 use Rattle.tuning.specs.Values.{value_of}
@@ -113,11 +113,11 @@ pub record ReadsAs (s : List ℕ) (a : Asked) (l : Lists) : Type 0 where
 
 -- it comes to the same on every box; so does the case, where what it asks has the same case on every table
 module _ (clock address draw : ℕ) (t : SatBox) {s : List ℕ} where
-  pub refused_alike : {r : Refusal} → RefusedAs s r → (requested s clock address draw t).case ≡ Reading r
+  pub refused_alike : {r : Refusal} → RefusedAs s r → (requested s clock address draw t).case ≡ Some (Reading r)
   unfolding requested answered
   refused_alike d = rw (refusal_alike (sweeping clock t).satbox.settings.frontends s d.no_fe, d.refusal)
 
-  module _ {a : Asked} {l : Lists} {c : Case} (d : ReadsAs s a l) (k : (u : SatBox) (client : Client) → (served u a l client).case ≡ c) where
+  module _ {a : Asked} {l : Lists} {c : Option Case} (d : ReadsAs s a l) (k : (u : SatBox) (client : Client) → (served u a l client).case ≡ c) where
     pub served_alike : (requested s clock address draw t).case ≡ c
     unfolding requested answered
     served_alike =

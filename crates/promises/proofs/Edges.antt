@@ -1,6 +1,6 @@
 -- Document 01, "Tried at the edges": P1 to P11, proved of the meanings of the calls. Where a proof is `refl`, both sides come to the same
 -- when they are worked out. Assumes nothing.
-use Rattle.std.specs.Prelude.{Ok}
+use Rattle.std.specs.Prelude.{Ok, Option}
 use Prim.Native.Nat.{ℕ, zero, suc, ◌+◌, ◌-◌, ◌≤◌, ◌<◌}
 use mathlib.Core.Path.{◌≡◌, refl, ap}
 use mathlib.Core.Bool.{Bool, true, false, cond, and-false}
@@ -72,10 +72,10 @@ abbrev Always : List ℕ → ℕ × ℕ → Type 0
 Always s v = (clock address draw : ℕ) (t : SatBox) → verdict (requested s clock address draw t) ≡ v
 
 -- by how the request is read
-always_refused : {s : List ℕ} {r : Refusal} → RefusedAs s r → Always s (verdict_of (Reading r))
+always_refused : {s : List ℕ} {r : Refusal} → RefusedAs s r → Always s (verdict_of (Some (Reading r)))
 always_refused d clock address draw t = ap verdict_of (refused_alike clock address draw t d)
 
-module _ {s : List ℕ} {a : Asked} {l : Lists} {c : Case} where
+module _ {s : List ℕ} {a : Asked} {l : Lists} {c : Option Case} where
   always_served : ReadsAs s a l → ((t : SatBox) (client : Client) → (served t a l client).case ≡ c) → Always s (verdict_of c)
   always_served d k clock address draw t = ap verdict_of (served_alike clock address draw t d k)
 
@@ -220,7 +220,7 @@ distinct_many : ltb 32 (length (listed 3 (pids_and (text "32"))).list) ≡ true
 unfolding listing
 distinct_many = refl
 
-distinct_refused : (t : SatBox) (c : Client) → (served t distinct_asked distinct_lists c).case ≡ TooManyPids
+distinct_refused : (t : SatBox) (c : Client) → (served t distinct_asked distinct_lists c).case ≡ Some TooManyPids
 unfolding serving
 distinct_refused t c = rw distinct_many
 

@@ -14,7 +14,6 @@ use Rattle.stream.specs.Values.{are_complete}
 use Rattle.table.specs.Table.{session_at, stream_of}
 use Rattle.table.specs.declared.SatBox.{SatBox}
 use Rattle.steps.specs.Sights.{Asked, asked_of, lists_of, place_named, sight_of}
-use Rattle.steps.specs.declared.cases.Case.TheVariants.{Passed}
 use Rattle.serving.specs.Serving.{Serving, served, client_of, answered}
 use Rattle.satbox.specs.Calls.{answer_of}
 use Rattle.orders.specs.Orders.{order_at, order_for}
@@ -33,20 +32,20 @@ module _ (s : List ℕ) (address draw : ℕ) (t : SatBox) (read : request_refusa
   abbrev place : ℕ
   place = place_named a.session t
 
-  passes : (served t a (lists_of s) (client_of address draw a)).case ≡ Passed → (answered s address draw t).case ≡ Passed
+  passes : (served t a (lists_of s) (client_of address draw a)).case ≡ None → (answered s address draw t).case ≡ None
   passes e = answered_case s address draw t read ∙ sym (served_case t a (lists_of s) (client_of address draw a)) ∙ e
 
   module _ (named : place < 32) where
     -- OPTIONS
     module _ (options : method_of s ≡ Options) where
-      pub options_passes : (answered s address draw t).case ≡ Passed
+      pub options_passes : (answered s address draw t).case ≡ None
       unfolding sight_of
       options_passes =
           passes (ap (λ (x : Serving). x.case) (options_granted t a (lists_of s) refl (options_table s address draw t read named options) options (client_of address draw a)))
 
     -- TEARDOWN of the session's own stream, on a well-formed table
     module _ (w : Whole t) (teardown : method_of s ≡ Teardown) (own : a.stream ≡ (session_at t place).stream) where
-      pub teardown_passes : (answered s address draw t).case ≡ Passed
+      pub teardown_passes : (answered s address draw t).case ≡ None
       unfolding sight_of
       teardown_passes =
           passes (ap (λ (x : Serving). x.case) (tears_down t a (lists_of s) (client_of address draw a) (sight_of t a) refl (teardown_table s address draw t read named w teardown own) teardown))

@@ -18,13 +18,13 @@ use Rattle.table.proofs.Counts.{get_or_set_alike}
 use Rattle.steps.specs.Sights.{Asked, Lists, asked_of, lists_of, place_named, sight_of}
 use Rattle.steps.specs.Steps.{is_passed, is_setup, is_named, table_case}
 use Rattle.steps.specs.declared.Sight.{Sight}
-use Rattle.steps.proofs.ReplyLaws.{unread_passed}
+use Rattle.steps.proofs.ReplyLaws.{passed_none}
 use Rattle.closings.specs.Closing.{closing}
 use Rattle.closings.proofs.Keeping.{Whole}
 use Rattle.serving.specs.Serving.{merging, stream_after, merges, is_unreached, is_opening, case_of, with_session, refreshed, kept, Serving, grant, denied, served, client_of, answered}
 use Rattle.serving.specs.declared.opening.Client.{Client}
 use Rattle.serving.proofs.Kept.{closing_again, seat, since, kept_by, kept_named, kept_alone, kept_streams, kept_place}
-use Rattle.satbox.proofs.RequestLaws.{grant_passes, case_unread}
+use Rattle.satbox.proofs.RequestLaws.{grant_passes}
 
 -- one that names a session opens none, so it does not ask for a free place
 no_opening : (v : Sight) → is_named v ≡ true → is_opening v ≡ false
@@ -103,7 +103,7 @@ pub served_case : (t : SatBox) (a : Asked) (l : Lists) (client : Client) → (se
 unfolding served
 served_case t a l client =
     cond_keeps (λ (x : Serving). x.case ≡ case_of t a l) (is_passed (case_of t a l)) (grant a.method t a l client) (denied t (case_of t a l))
-    (λ y. grant_passes a.method t a l client ∙ sym (unread_passed (case_of t a l) (case_unread t a l) y)) (λ n. refl)
+    (λ y. grant_passes a.method t a l client ∙ sym (passed_none (case_of t a l) y)) (λ n. refl)
 
 -- A REQUEST THAT STEPS 1 TO 10 LET THROUGH comes to the case that steps 11 to 18 give it on the table as it was
 pub answered_case : (s : List ℕ) (address draw : ℕ) (t : SatBox) → request_refusal t.settings.frontends s ≡ None

@@ -23,7 +23,6 @@ use Rattle.table.specs.declared.SatBox.{SatBox}
 use Rattle.table.proofs.Changes.{seated_live}
 use Rattle.steps.specs.Sights.{Asked, codes_in, asked_of, place_named, sight_of}
 use Rattle.steps.specs.Steps.{table_case}
-use Rattle.steps.specs.declared.cases.Case.TheVariants.{Passed}
 use Rattle.closings.proofs.Keeping.{Whole}
 use Rattle.serving.proofs.Passing.{named_closable}
 use Rattle.scan.specs.Lists.{◌gives◌or◌}
@@ -77,7 +76,7 @@ module _ (s : List ℕ) (address draw : ℕ) (t : SatBox) (read : request_refusa
   module _ (named : place < 32) where
     -- OPTIONS
     module _ (options : method_of s ≡ Options) where
-      pub options_table : table_case (sight_of t a) ≡ Passed
+      pub options_table : table_case (sight_of t a) ≡ None
       unfolding table_case sight_of
       options_table = rw (options, lt-ltb place 32 named, no_query (rw options))
 
@@ -92,7 +91,7 @@ module _ (s : List ℕ) (address draw : ℕ) (t : SatBox) (read : request_refusa
       some : a.stream ≡ 0 → ⊥
       some z = live (ap (λ k. (stream_of t k).frontend) z)
 
-      pub teardown_table : table_case (sight_of t a) ≡ Passed
+      pub teardown_table : table_case (sight_of t a) ≡ None
       unfolding table_case sight_of
       teardown_table =
           rw (teardown, lt-ltb place 32 named, ne_eqb a.stream 0 some, ne_eqb (stream_of t a.stream).frontend 0 live, eq-eqb a.stream (session_at t place).stream own, no_fe (rw teardown), no_query (rw teardown))

@@ -1,13 +1,13 @@
 -- What is known of a request that steps 11 to 18 let through, beside what the box's own proofs know of it. Assumes nothing.
-use mathlib.Core.Path.{◌≡◌, refl, ap}
+use mathlib.Core.Path.{◌≡◌, refl}
 use mathlib.Core.Bool.{Bool, true, false, not, ◌&&◌}
 use Prim.Native.Nat.{ℕ}
 use lib.Dec.{eqb}
 use lib.ListN.{get_or}
 use borrow.Author.Tests.{ne_eqb, eqb-false, not-false}
-use Rattle.scan.proofs.Bools.{never, Case, is, isnt, case, cond_keeps}
+use Rattle.scan.proofs.Bools.{never, cond_keeps}
 use Rattle.aim.specs.declared.Method.TheVariants.{Setup, Teardown}
-use Rattle.std.specs.Prelude.{Result, Ok, Err}
+use Rattle.std.specs.Prelude.{Result, Ok, Err, Option, Some, None}
 use Rattle.std.specs.Result.{IsOk}
 use Rattle.stream.specs.declared.Stream.{Stream}
 use Rattle.stream.specs.declared.Refusal.{Refusal}
@@ -19,15 +19,15 @@ use Rattle.steps.specs.Sights.{Asked, Lists, sight_of}
 use Rattle.steps.specs.Steps.{is_passed, is_setup, is_named, table_case}
 use Rattle.steps.specs.declared.Sight.{Sight}
 use Rattle.steps.specs.declared.cases.Case.{Case as Verdict}
-use Rattle.steps.specs.declared.cases.Case.TheVariants.{Passed, NotReached, Full}
-use Rattle.steps.proofs.ReplyLaws.{unread_passed, table_unread}
+use Rattle.steps.specs.declared.cases.Case.TheVariants.{NotReached, Full}
+use Rattle.steps.proofs.ReplyLaws.{passed_none}
+use Rattle.steps.proofs.Telling.{chain}
 use Rattle.closings.specs.Does.{Closable}
 use Rattle.serving.specs.Serving.{can_join, can_open, source_of, feed_of, merging, merges, merge_case, is_unreached, is_opening, can_seat, case_of, Serving, grant, denied, served}
 use Rattle.serving.specs.Turns.{change_case}
 use Rattle.serving.specs.declared.opening.Client.{Client}
 use Rattle.closings.proofs.Keeping.{Whole}
-use Rattle.serving.proofs.Passing.{chain, Untested, untested, named_needed, named_closable}
-use Rattle.satbox.proofs.RequestLaws.{case_unread}
+use Rattle.serving.proofs.Passing.{Untested, untested, named_needed, named_closable}
 use Rattle.scan.specs.Lists.{◌gives◌or◌}
 
 -- STEPS 16 TO 18: none of their tests holds
@@ -37,30 +37,25 @@ pub record Changing (t : SatBox) (a : Asked) (l : Lists) : Type 0 where
   pub seat : is_opening (sight_of t a) && not (can_seat t (sight_of t a)) ≡ false
 
 -- a case that is given only where it does not pass
-chain_of : (m : Bool) (c d : Verdict) → ((m && not (is_passed c)) gives c or d) ≡ Passed → (m && not (is_passed c) ≡ false) × (d ≡ Passed)
-chain_of false c d e = (refl, e)
-chain_of true c d e = by (case (is_passed c))
-  where
-    by : Case (is_passed c) → (not (is_passed c) ≡ false) × (d ≡ Passed)
-    by (is y) = (rw y, rw y at e)
-    by (isnt n) = never (ap is_passed (rw n at e)) n
+first_none : (c d : Option Verdict) → (not (is_passed c) gives c or d) ≡ None → (c ≡ None) × (d ≡ None)
+first_none None d e = (refl, e)
+first_none (Some c) d e = cc
 
-changing : (t : SatBox) (a : Asked) (l : Lists) → change_case t a l ≡ Passed → Changing t a l
+chain_of : (m : Bool) (c d : Option Verdict) → ((m && not (is_passed c)) gives c or d) ≡ None → (m && not (is_passed c) ≡ false) × (d ≡ None)
+chain_of false c d e = (refl, e)
+chain_of true c d e = let h = first_none c d e in (rw h.0, h.1)
+
+changing : (t : SatBox) (a : Asked) (l : Lists) → change_case t a l ≡ None → Changing t a l
 changing t a l e =
     let m = chain_of (merges (sight_of t a)) (merge_case (merging t a l)) _ e in
-    let r = chain (merges (sight_of t a) && (not (eqb a.stream 0) && is_unreached (sight_of t a))) NotReached _ refl m.1 in
-    let s = chain (is_opening (sight_of t a) && not (can_seat t (sight_of t a))) Full Passed refl r.1 in
+    let r = chain (merges (sight_of t a) && (not (eqb a.stream 0) && is_unreached (sight_of t a))) NotReached _ m.1 in
+    let s = chain (is_opening (sight_of t a) && not (can_seat t (sight_of t a))) Full None r.1 in
     record { query = m.0; src = r.0; seat = s.0 }
 
 -- ALL OF THEM
-pub through : (t : SatBox) (a : Asked) (l : Lists) → case_of t a l ≡ Passed → Untested (sight_of t a) × Changing t a l
+pub through : (t : SatBox) (a : Asked) (l : Lists) → case_of t a l ≡ None → Untested (sight_of t a) × Changing t a l
 unfolding case_of
-through t a l e = by (case (is_passed (table_case (sight_of t a))))
-  where
-    by : Case (is_passed (table_case (sight_of t a))) → Untested (sight_of t a) × Changing t a l
-    by (is y) =
-        (untested (sight_of t a) (unread_passed (table_case (sight_of t a)) (table_unread (sight_of t a)) y), changing t a l (rw y at e))
-    by (isnt n) = never (ap is_passed (rw n at e)) n
+through t a l e = let h = first_none (table_case (sight_of t a)) (change_case t a l) e in (untested (sight_of t a) h.0, changing t a l h.1)
 
 -- what holds of what is granted, and of what is denied, holds of a request
 pub served_by : (t : SatBox) (a : Asked) (l : Lists) (client : Client) (P : Serving → Type 0)
@@ -69,7 +64,7 @@ pub served_by : (t : SatBox) (a : Asked) (l : Lists) (client : Client) (P : Serv
 unfolding served
 served_by t a l client P f g =
     cond_keeps P (is_passed (case_of t a l)) (grant a.method t a l client) (denied t (case_of t a l))
-    (λ e. let h = through t a l (unread_passed (case_of t a l) (case_unread t a l) e) in f h.0 h.1) g
+    (λ e. let h = through t a l (passed_none (case_of t a l) e) in f h.0 h.1) g
 
 -- of two tests that do not hold together, one holds and the other does not
 and_other : (x y : Bool) → x && y ≡ false → x ≡ true → y ≡ false

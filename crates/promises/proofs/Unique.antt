@@ -268,14 +268,17 @@ pub answer_write : Unique answer_contracts.write.ended answer.write.Reads.Post
 answer_write κs a x y v w = wrote
 
 -- STEPS
-pub steps_is_passed : Unique steps_contracts.is_passed.ended steps.is_passed.Reads.Post
-steps_is_passed κs a x y v w = same
-
 pub steps_number_of : Unique steps_contracts.number_of.ended steps.number_of.Reads.Post
 steps_number_of κs a x y v w = same
 
 pub steps_sight_of : Unique steps_contracts.sight_of.ended steps.sight_of.Reads.Post
 steps_sight_of κs a x y v w = same
+
+pub steps_step : Unique steps_contracts.Case.step.ended steps.Case.step.Reads.Post
+steps_step κs a x y v w = same
+
+pub steps_status : Unique steps_contracts.Case.status.ended steps.Case.status.Reads.Post
+steps_status κs a x y v w = same
 
 pub steps_case_of : Unique steps_contracts.case_of.ended steps.case_of.Reads.Post
 steps_case_of κs a x y v w = same
@@ -310,6 +313,12 @@ pub closings_close_due : Unique closings_contracts.close_due.ended closings.clos
 closings_close_due κs a x y v w p q = (refl, λ i. (one p.satbox q.satbox i, (one p.journal q.journal i, (tt, tt))))
 
 -- SERVING
+pub serving_reason : Unique serving_contracts.Turn.reason.ended serving.Turn.reason.Reads.Post
+serving_reason κs a x y v w = same
+
+pub serving_about : Unique serving_contracts.Turn.about.ended serving.Turn.about.Reads.Post
+serving_about κs a x y v w = same
+
 pub serving_turn_of : Unique serving_contracts.turn_of.ended serving.turn_of.Reads.Post
 serving_turn_of κs a x y v w = same
 

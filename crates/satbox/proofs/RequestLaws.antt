@@ -32,8 +32,8 @@ use Rattle.steps.specs.Sights.{Asked, Lists, asked_of, lists_of, sight_of}
 use Rattle.steps.specs.Steps.{is_passed, is_named, table_case, read_case}
 use Rattle.steps.specs.Replies.{reply_text}
 use Rattle.steps.specs.Handed.{reply_to}
-use Rattle.steps.specs.declared.cases.Case.TheVariants.{Passed, NotReached, Full}
-use Rattle.steps.proofs.ReplyLaws.{Follows, follows_passed, follows_refused, is_reading, unread_chain, table_unread, reply_told, Numbers, reply_fits}
+use Rattle.steps.specs.declared.cases.Case.TheVariants.{Reading, NotReached, Full}
+use Rattle.steps.proofs.ReplyLaws.{Follows, follows_passed, follows_refused, IsUnread, unread_chain, table_unread, reply_told, Numbers, reply_fits}
 use Rattle.closings.specs.Does.{Does}
 use Rattle.closings.specs.Closing.{swept, sweeping, at_clock, bytes_of}
 use Rattle.serving.specs.Serving.{Serving, merging, merges, merge_case, is_unreached, is_opening, can_seat, case_of, kept, denied, grant, served, client_of, answered}
@@ -49,39 +49,39 @@ use Rattle.closings.proofs.Keeping.{Whole, whole_roomy, clock_whole, whole_forme
 use Rattle.satbox.proofs.Kept.{sweeping_whole}
 
 -- STEPS 11 TO 18 are none of the reading's
-change_unread : (t : SatBox) (a : Asked) (l : Lists) → is_reading (change_case t a l) ≡ false
+change_unread : (t : SatBox) (a : Asked) (l : Lists) → IsUnread (change_case t a l)
 change_unread t a l =
     unread_chain (merges (sight_of t a) && not (is_passed (merge_case (merging t a l)))) (merge_case (merging t a l)) _ (by (merging t a l))
-    (unread_chain (merges (sight_of t a) && (not (eqb a.stream 0) && is_unreached (sight_of t a))) NotReached _ refl
-    (unread_chain (is_opening (sight_of t a) && not (can_seat t (sight_of t a))) Full Passed refl refl))
+    (unread_chain (merges (sight_of t a) && (not (eqb a.stream 0) && is_unreached (sight_of t a))) (Some NotReached) _ (λ x e. cc)
+    (unread_chain (is_opening (sight_of t a) && not (can_seat t (sight_of t a))) (Some Full) None (λ x e. cc) (λ x e. cc)))
   where
-    by : (c : Result Stream Unmerged) → is_reading (merge_case c) ≡ false
-    by (Ok m) = refl
-    by (Err Clash) = refl
-    by (Err TooMany) = refl
+    by : (c : Result Stream Unmerged) → IsUnread (merge_case c)
+    by (Ok m) x e = cc
+    by (Err Clash) x e = cc
+    by (Err TooMany) x e = cc
 
-pub case_unread : (t : SatBox) (a : Asked) (l : Lists) → is_reading (case_of t a l) ≡ false
+case_unread : (t : SatBox) (a : Asked) (l : Lists) → IsUnread (case_of t a l)
 unfolding case_of
 case_unread t a l =
     let c = table_case (sight_of t a) in unread_chain (not (is_passed c)) c (change_case t a l) (table_unread (sight_of t a)) (change_unread t a l)
 
 -- what is granted passes
-pub grant_passes : (m : Method) (t : SatBox) (a : Asked) (l : Lists) (client : Client) → (grant m t a l client).case ≡ Passed
+pub grant_passes : (m : Method) (t : SatBox) (a : Asked) (l : Lists) (client : Client) → (grant m t a l client).case ≡ None
 grant_passes Options t a l client = refl
 grant_passes Setup t a l client =
     cond_keeps Passes (is_named (sight_of t a)) _ _ (λ _. refl) (λ _. cond_keeps Passes (eqb a.stream 0) _ _ (λ _. refl) (λ _. refl))
   where
     Passes : Serving → Type 0
-    Passes x = x.case ≡ Passed
+    Passes x = x.case ≡ None
 grant_passes Play t a l client = refl
 grant_passes Teardown t a l client = refl
 grant_passes Other t a l client = refl
 
-pub served_unread : (t : SatBox) (a : Asked) (l : Lists) (client : Client) → is_reading (served t a l client).case ≡ false
+served_unread : (t : SatBox) (a : Asked) (l : Lists) (client : Client) → IsUnread (served t a l client).case
 unfolding served
 served_unread t a l client =
-    cond_keeps (λ x. is_reading x.case ≡ false) (is_passed (case_of t a l)) (grant a.method t a l client) (denied t (case_of t a l))
-    (λ _. ap is_reading (grant_passes a.method t a l client)) (λ _. case_unread t a l)
+    cond_keeps (λ x. IsUnread x.case) (is_passed (case_of t a l)) (grant a.method t a l client) (denied t (case_of t a l))
+    (λ _ x e. let n : None ≡ Some (Reading x) = sym (grant_passes a.method t a l client) ∙ e in cc) (λ _. case_unread t a l)
 
 -- a session's numbers, as the code keeps them
 pub numbers : {s : Session} → s.number < 4294967296 → s.address < 4294967296 → s.port < 4294967296 → s.stream < 256 → Numbers s

@@ -19,7 +19,7 @@ abbrev pub number_by : Option Refusal → Sent → ℕ
 number_by refusal sent = cond (is_read refusal) (session_number sent) 0
 
 -- what passed steps 1 to 15 was read
-abbrev pub Tells : List ℕ → Request → Case → Type 0
+abbrev pub Tells : List ℕ → Request → Option Case → Type 0
 Tells s r case = is_passed case ≡ true → Told s r
 
 -- x and d are what a request on a swept table t comes to, and the answer buffer b with its answer

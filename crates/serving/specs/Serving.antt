@@ -1,5 +1,5 @@
 -- Document 01: what an opening takes, steps 16 to 18, what a request does where nothing refuses it, and all eighteen steps in a row. Assumes nothing.
-use Rattle.std.specs.Prelude.{ℕ, ◌+◌, ◌*◌, Bool, not, ◌&&◌, cond, ◌||◌, leb, ltb, eqb, length, set, List, Result, Ok, Err}
+use Rattle.std.specs.Prelude.{ℕ, ◌+◌, ◌*◌, Bool, not, ◌&&◌, cond, ◌||◌, leb, ltb, eqb, length, set, List, Option, Some, None, Result, Ok, Err}
 use Rattle.std.specs.Result.{result_unwrap_or}
 use Rattle.journal.specs.Records.{record_size}
 use Rattle.stream.specs.declared.Stream.{Stream}
@@ -23,7 +23,7 @@ use Rattle.steps.specs.Sights.{Asked, Lists, asked_of, lists_of, port_of, sight_
 use Rattle.steps.specs.Steps.{is_passed, is_setup, is_named, table_case, read_case}
 use Rattle.steps.specs.declared.Sight.{Sight}
 use Rattle.steps.specs.declared.cases.Case.{Case}
-use Rattle.steps.specs.declared.cases.Case.TheVariants.{Passed, Combination, TooManyPids, NotReached, Full}
+use Rattle.steps.specs.declared.cases.Case.TheVariants.{Combination, TooManyPids, NotReached, Full}
 use Rattle.scan.specs.Lists.{◌gives◌or◌}
 
 -- not "no free session place"
@@ -87,9 +87,9 @@ abbrev pub refusal_case : Refusal → Case
 refusal_case Clash = Combination
 refusal_case TooMany = TooManyPids
 
-abbrev pub merge_case : Result Stream Refusal → Case
-merge_case (Ok m) = Passed
-merge_case (Err refusal) = refusal_case refusal
+abbrev pub merge_case : Result Stream Refusal → Option Case
+merge_case (Ok m) = None
+merge_case (Err refusal) = Some (refusal_case refusal)
 
 -- 17, by order 1: "a later src that the held frontend does not reach"
 abbrev pub is_unreached : Sight → Bool
@@ -105,13 +105,13 @@ can_seat t v = cond (eqb v.stream 0) (can_open (source_of v) (feed_of t v) t) (c
 
 -- THE CASE of a request that steps 1 to 10 let through: 11 to 15; 16 and 17, where its query is merged, and 17 for the src of a live stream; 18:
 -- "Opening: .."
-unfoldable pub case_of : SatBox → Asked → Lists → Case
+unfoldable pub case_of : SatBox → Asked → Lists → Option Case
 case_of t a l =
     not (is_passed (table_case (sight_of t a))) gives table_case (sight_of t a) or
     (merges (sight_of t a) && not (is_passed (merge_case (merging t a l)))) gives merge_case (merging t a l) or
-    (merges (sight_of t a) && (not (eqb a.stream 0) && is_unreached (sight_of t a))) gives NotReached or
-    (is_opening (sight_of t a) && not (can_seat t (sight_of t a))) gives Full or
-    Passed
+    (merges (sight_of t a) && (not (eqb a.stream 0) && is_unreached (sight_of t a))) gives Some NotReached or
+    (is_opening (sight_of t a) && not (can_seat t (sight_of t a))) gives Some Full or
+    None
 
 -- WHAT IS DONE: to a session, which is changed in its place; nothing is written of it
 unfoldable pub with_session : ℕ → Session → SatBox → SatBox
@@ -134,10 +134,10 @@ seat_after v =
 pub record Serving : Type 0 where
   pub did : Did
   pub session : Session
-  pub case : Case
+  pub case : Option Case
 
 abbrev pub granted : Did → Session → Serving
-granted d s = record { did = d; session = s; case = Passed }
+granted d s = record { did = d; session = s; case = None }
 
 -- "for the owner, merges the query"; "PLAY merges the owner's query and marks the session playing"
 abbrev pub retuned : SatBox → Asked → Lists → SatBox
@@ -162,7 +162,7 @@ grant Teardown t a l client = granted (closing 1 (sight_of t a).place t) (sight_
 grant Other t a l client = granted (nothing t) no_session
 
 -- "A status other than 200 changes nothing beyond the sweep"; by order 3 but for the last time, which is set in t before
-abbrev pub denied : SatBox → Case → Serving
+abbrev pub denied : SatBox → Option Case → Serving
 denied t case = record { did = nothing t; session = no_session; case = case }
 
 -- A REQUEST that steps 1 to 10 let through

@@ -21,7 +21,7 @@ use Rattle.steps.specs.Steps.{is_passed, is_named, table_case, read_case}
 use Rattle.steps.specs.Sights.{sight_of, Asked, Lists}
 use Rattle.steps.specs.declared.Sight.{Sight}
 use Rattle.steps.specs.declared.cases.Case.{Case}
-use Rattle.steps.specs.declared.cases.Case.TheVariants.{Passed, NotReached, Full}
+use Rattle.steps.specs.declared.cases.Case.TheVariants.{NotReached, Full}
 use Rattle.closings.specs.Closing.{Did, nothing, restreamed, noting, closing}
 use Rattle.closings.specs.Does.{Closable}
 use Rattle.closings.specs.Stamps.{codes_of}
@@ -36,12 +36,12 @@ use Rattle.serving.specs.declared.Turn.TheVariants.{Refused, Kept, Changed, Open
 use Rattle.scan.specs.Lists.{◌gives◌or◌}
 
 -- steps 16 to 18 alone
-abbrev pub change_case : SatBox → Asked → Lists → Case
+abbrev pub change_case : SatBox → Asked → Lists → Option Case
 change_case t a l =
     (merges (sight_of t a) && not (is_passed (merge_case (merging t a l)))) gives merge_case (merging t a l) or
-    (merges (sight_of t a) && (not (eqb a.stream 0) && is_unreached (sight_of t a))) gives NotReached or
-    (is_opening (sight_of t a) && not (can_seat t (sight_of t a))) gives Full or
-    Passed
+    (merges (sight_of t a) && (not (eqb a.stream 0) && is_unreached (sight_of t a))) gives Some NotReached or
+    (is_opening (sight_of t a) && not (can_seat t (sight_of t a))) gives Some Full or
+    None
 
 abbrev pub takes_query : Method → Bool
 takes_query m = eqb (method_number m) 1 || eqb (method_number m) 2
@@ -90,13 +90,13 @@ offer_of t v client =
     cond (eqb v.stream 0) (new_offer t (source_of v) (is_small (feed_of t v)) client) (live_offer t (is_small v.stream) v.frontend client)
 
 -- TURNS: why a request is refused, and the session that its answer is about
-abbrev pub reason_of : Turn → Case
-reason_of (Refused case kept) = case
-reason_of (Kept seat) = Passed
-reason_of (Changed seat m) = Passed
-reason_of (Opened seat m) = Passed
-reason_of (Joined seat) = Passed
-reason_of (Closed seat) = Passed
+abbrev pub reason_of : Turn → Option Case
+reason_of (Refused case kept) = Some case
+reason_of (Kept seat) = None
+reason_of (Changed seat m) = None
+reason_of (Opened seat m) = None
+reason_of (Joined seat) = None
+reason_of (Closed seat) = None
 
 abbrev pub session_in : Option Seat → Session
 session_in None = no_session
@@ -146,16 +146,18 @@ retuned_by v c =
 unfoldable pub set_up_by : Sight → Result Stream Unmerged → Offer → Turn
 set_up_by v c o = cond (is_named v) (retuned_by v c) (cond (eqb v.stream 0) (opened_by v c o) (joined_by v o))
 
+-- step 6 lets no other method through
 abbrev pub method_turn : Method → Sight → Result Stream Unmerged → Offer → Turn
 method_turn Options v c o = Kept (named_seat v)
 method_turn Setup v c o = set_up_by v c o
 method_turn Play v c o = retuned_by v c
 method_turn Teardown v c o = Closed (record { place = v.place; session = v.session })
-method_turn Other v c o = denied_as v Passed
+method_turn Other v c o = Kept (named_seat v)
 
 -- THE TURN of a request that steps 1 to 15 let through or refused
-unfoldable pub turn_by : Sight → Result Stream Unmerged → Offer → Case → Turn
-turn_by v c o case = cond (is_passed case) (method_turn v.method v c o) (denied_as v case)
+unfoldable pub turn_by : Sight → Result Stream Unmerged → Offer → Option Case → Turn
+turn_by v c o None = method_turn v.method v c o
+turn_by v c o (Some case) = denied_as v case
 
 -- what a turn does: a session set in its place, its stream set before it, an opening with its record, and a closing
 abbrev pub with_seat : Seat → SatBox → SatBox
@@ -221,7 +223,7 @@ pub record Servable (t : SatBox) (s : List ℕ) (r : Request) : Type 0 where
 pub record Through (t : SatBox) (s : List ℕ) (r : Request) (v : Sight) : Type 0 where
   pub servable : Servable t s r
   pub sight : v ≡ sight_of t (asked_by r)
-  pub passed : table_case v ≡ Passed
+  pub passed : table_case v ≡ None
 
 -- it opens a session on a new stream, or on a live one
 pub record Opens (t : SatBox) (s : List ℕ) (r : Request) (v : Sight) : Type 0 where
@@ -240,21 +242,21 @@ abbrev pub Found : SatBox → Sight → Stream → Type 0
 Found t v m = (v.frontend ≡ 0 → ⊥) → m ≡ stream_of t v.stream
 
 -- the first of steps 1 to 15 that refuses it
-abbrev pub first_case : Option Refusal → Sight → Case
+abbrev pub first_case : Option Refusal → Sight → Option Case
 first_case refusal v = cond (reading.is_read refusal) (table_case v) (read_case refusal)
 
-abbrev pub opens_now : Case → Sight → Bool
+abbrev pub opens_now : Option Case → Sight → Bool
 opens_now case v = is_passed case && is_opening v
 
 -- whether its query is merged, and into which stream: a new one, or the one that it names
-abbrev pub merges_now : Case → Sight → Bool
+abbrev pub merges_now : Option Case → Sight → Bool
 merges_now case v = is_passed case && merges v
 
 abbrev pub unmerged_by : Sight → Stream → Offer → Stream
 unmerged_by v m o = cond (eqb v.stream 0) (blank o.feed) m
 
 -- a request as it was read, and what was looked up for it
-pub record Looks (t : SatBox) (s : List ℕ) (r : Request) (v : Sight) (m : Stream) (case : Case) : Type 0 where
+pub record Looks (t : SatBox) (s : List ℕ) (r : Request) (v : Sight) (m : Stream) (case : Option Case) : Type 0 where
   pub formed : well_formed t ≡ true
   pub places : length t.sessions ≡ 32
   pub rows : length t.streams ≡ 8

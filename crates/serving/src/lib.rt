@@ -33,12 +33,12 @@ pub enum Turn {
 
 impl Turn {
     // Why the request is refused, if it is.
-    pub fn reason(&self) -> Case
+    pub fn reason(&self) -> Option<Case>
         ensures { result ≡ reason_of self.now }
     {
         match *self {
-            Turn::Refused { case, .. } => case,
-            _ => Case::Passed,
+            Turn::Refused { case, .. } => Some(case),
+            _ => None,
         }
     }
 
@@ -179,16 +179,18 @@ fn set_up(v: Sight, merged: Result<Stream, Refusal>, o: Offer) -> Turn
     join(v, o)
 }
 
-// What a request comes to: `merged` is the stream with its query, or why it is not merged; o what an opening would take.
+// What a request comes to: `merged` is the stream with its query, or why it is not merged; o what an opening would take; `case` which of
+// steps 1 to 15 refuses, if one does.
 #[tactic(auto, unfolding(crate::specs::Turns::turn_by))]
-pub fn turn_of(v: Sight, merged: Result<Stream, Refusal>, o: Offer, case: Case) -> Turn
+pub fn turn_of(v: Sight, merged: Result<Stream, Refusal>, o: Offer, case: Option<Case>) -> Turn
     ensures { result ≡ turn_by v merged o case }
 {
-    if !steps::is_passed(case) {
+    if let Some(case) = case {
         return deny(v, case);
     }
     match v.method {
-        Method::Options => Turn::Kept { seat: named(v) },
+        // Step 6 lets no other method through.
+        Method::Options | Method::Other => Turn::Kept { seat: named(v) },
         Method::Setup => set_up(v, merged, o),
         Method::Play => retune(v, merged),
         Method::Teardown => Turn::Closed {
@@ -197,6 +199,5 @@ pub fn turn_of(v: Sight, merged: Result<Stream, Refusal>, o: Offer, case: Case) 
                 session: v.session,
             },
         },
-        Method::Other => deny(v, Case::Passed),
     }
 }

@@ -38,76 +38,32 @@ use Rattle.answer.specs.declared.Kind.TheVariants as kind
 use Rattle.answer.proofs.Fits.{answer_fits}
 use Rattle.steps.proofs.Telling.{asked_short, head_short}
 use Rattle.std.specs.Prelude.{Option, Some, None}
-use Rattle.steps.specs.Steps.{rule_of, read_case, is_passed, table_case}
+use Rattle.steps.specs.Steps.{rule_of, status_of, read_case, is_passed, table_case}
 use Rattle.steps.specs.Tests.{lacks_session, names_dead, is_out_of_state, is_anothers, lacks_port}
-use Rattle.steps.specs.Replies.{granted_lines, reply_text}
-use Rattle.steps.specs.Handed.{granted_kind, kind_of, reply_to}
+use Rattle.steps.specs.Replies.{granted_lines, reply_lines, reply_text}
+use Rattle.steps.specs.Handed.{granted_kind, reply_to}
 use Rattle.steps.specs.declared.Sight.{Sight}
 use Rattle.steps.specs.declared.cases.Case.{Case}
-use Rattle.steps.specs.declared.cases.Case.TheVariants.{Passed, Reading, NoSession, NotLive, State, NotOwner, Transport, Combination, TooManyPids, NotReached, Full}
+use Rattle.steps.specs.declared.cases.Case.TheVariants.{Reading, NoSession, NotLive, State, NotOwner, Transport, Combination, TooManyPids, NotReached, Full}
 use Rattle.refusals.specs.Refusals.{reading_rule}
 
-abbrev pub is_reading : Case → Bool
-is_reading Passed = false
-is_reading (Reading q) = true
-is_reading NoSession = false
-is_reading NotLive = false
-is_reading State = false
-is_reading NotOwner = false
-is_reading Transport = false
-is_reading Combination = false
-is_reading TooManyPids = false
-is_reading NotReached = false
-is_reading Full = false
+-- a case that is none of the reading's
+abbrev pub IsUnread : Option Case → Type 0
+IsUnread c = (x : Refusal) → c ≡ Some (Reading x) → ⊥
 
 -- a case that what was read may have: its refusal, or where it has none any other
-pub data Follows (r : Request) (c : Case) : Type 0 where
-  follows_passed : r.refusal ≡ None → is_reading c ≡ false → Follows r c
-  follows_refused : (x : Refusal) → c ≡ Reading x → r.refusal ≡ Some x → Follows r c
+pub data Follows (r : Request) (c : Option Case) : Type 0 where
+  follows_passed : r.refusal ≡ None → IsUnread c → Follows r c
+  follows_refused : (x : Refusal) → c ≡ Some (Reading x) → r.refusal ≡ Some x → Follows r c
 
--- a refusal of the reading refuses
-pub reading_refuses : (x : Refusal) → is_passed (Reading x) ≡ false
-reading_refuses refusal.Layout = refl
-reading_refuses refusal.CSeq = refl
-reading_refuses refusal.RequestLine = refl
-reading_refuses refusal.HeaderTwice = refl
-reading_refuses refusal.Version = refl
-reading_refuses refusal.Require = refl
-reading_refuses refusal.Method = refl
-reading_refuses refusal.UriLong = refl
-reading_refuses refusal.UriForm = refl
-reading_refuses refusal.QueryUntaken = refl
-reading_refuses refusal.QueryForm = refl
-reading_refuses refusal.PidsClash = refl
-reading_refuses refusal.PidsUnstreamed = refl
-reading_refuses refusal.Value = refl
-reading_refuses refusal.NoStream = refl
+-- what passes is none of the refusals
+pub passed_none : (c : Option Case) → is_passed c ≡ true → c ≡ None
+passed_none None h = refl
+passed_none (Some c) h = never refl (sym h)
 
 pub read_passes : (x : Option Refusal) → is_passed (read_case x) ≡ reading.is_read x
 read_passes None = refl
-read_passes (Some x) = reading_refuses x
-
--- a case that refuses, and is answered without a line of its own
-abbrev IsBare : Case → Type 0
-IsBare c = (is_passed c ≡ false) × ((method : Method) → kind_of c method ≡ kind.Bare) × ((value : List ℕ) → refused_lines (rule_of c).0 value ≡ [])
-
--- what holds of the case that passes, and of every such case, holds of all that are not the reading's
-unread_keeps : (P : Case → Type 0) → P Passed → ((c : Case) → IsBare c → P c) → (c : Case) → is_reading c ≡ false → P c
-unread_keeps P p q Passed n = p
-unread_keeps P p q (Reading x) n = never refl n
-unread_keeps P p q NoSession n = q NoSession (refl, λ _. refl, λ _. refl)
-unread_keeps P p q NotLive n = q NotLive (refl, λ _. refl, λ _. refl)
-unread_keeps P p q State n = q State (refl, λ _. refl, λ _. refl)
-unread_keeps P p q NotOwner n = q NotOwner (refl, λ _. refl, λ _. refl)
-unread_keeps P p q Transport n = q Transport (refl, λ _. refl, λ _. refl)
-unread_keeps P p q Combination n = q Combination (refl, λ _. refl, λ _. refl)
-unread_keeps P p q TooManyPids n = q TooManyPids (refl, λ _. refl, λ _. refl)
-unread_keeps P p q NotReached n = q NotReached (refl, λ _. refl, λ _. refl)
-unread_keeps P p q Full n = q Full (refl, λ _. refl, λ _. refl)
-
--- only one of them passes
-pub unread_passed : (c : Case) → is_reading c ≡ false → is_passed c ≡ true → c ≡ Passed
-unread_passed = unread_keeps (λ c. is_passed c ≡ true → c ≡ Passed) (λ _. refl) (λ c b e. never e b.0)
+read_passes (Some x) = refl
 
 -- what holds of two refusals holds of the first that applies
 refuses_keeps : {A : Type 0} (P : A → Type 0) (b : Bool) (x y : A) → P x → P y → P (b gives x or y)
@@ -115,17 +71,17 @@ refuses_keeps P true x y p q = p
 refuses_keeps P false x y p q = q
 
 -- steps 11 to 15 are none of the reading's
-pub unread_chain : (b : Bool) (c d : Case) → is_reading c ≡ false → is_reading d ≡ false → is_reading (b gives c or d) ≡ false
-unread_chain = refuses_keeps (λ c. is_reading c ≡ false)
+pub unread_chain : (b : Bool) (c d : Option Case) → IsUnread c → IsUnread d → IsUnread (b gives c or d)
+unread_chain = refuses_keeps IsUnread
 
-pub table_unread : (v : Sight) → is_reading (table_case v) ≡ false
+pub table_unread : (v : Sight) → IsUnread (table_case v)
 unfolding table_case
 table_unread v =
-    unread_chain (lacks_session v) NoSession _ refl
-    (unread_chain (names_dead v) NotLive _ refl
-    (unread_chain (is_out_of_state v) State _ refl
-    (unread_chain (is_anothers v) NotOwner _ refl
-    (unread_chain (lacks_port v) Transport Passed refl refl))))
+    unread_chain (lacks_session v) (Some NoSession) _ (λ x e. cc)
+    (unread_chain (names_dead v) (Some NotLive) _ (λ x e. cc)
+    (unread_chain (is_out_of_state v) (Some State) _ (λ x e. cc)
+    (unread_chain (is_anothers v) (Some NotOwner) _ (λ x e. cc)
+    (unread_chain (lacks_port v) (Some Transport) None (λ x e. cc) (λ x e. cc)))))
 
 -- THE WORD THAT AN ANSWER REPEATS
 -- step 5 is a Require header's
@@ -161,25 +117,34 @@ unfolding request_refusal
 requires frontends s e = rw e
 
 -- step 5 is a Require header's
-fifth : (x : Refusal) → (reading_rule x).0 ≡ 5 → x ≡ refusal.Require
-fifth refusal.Layout e = absurd (omega arith)
-fifth refusal.CSeq e = absurd (omega arith)
-fifth refusal.RequestLine e = absurd (omega arith)
-fifth refusal.HeaderTwice e = absurd (omega arith)
-fifth refusal.Version e = absurd (omega arith)
-fifth refusal.Require e = refl
-fifth refusal.Method e = absurd (omega arith)
-fifth refusal.UriLong e = absurd (omega arith)
-fifth refusal.UriForm e = absurd (omega arith)
-fifth refusal.QueryUntaken e = absurd (omega arith)
-fifth refusal.QueryForm e = absurd (omega arith)
-fifth refusal.PidsClash e = absurd (omega arith)
-fifth refusal.PidsUnstreamed e = absurd (omega arith)
-fifth refusal.Value e = absurd (omega arith)
-fifth refusal.NoStream e = absurd (omega arith)
+fifth : (c : Case) → (rule_of c).0 ≡ 5 → c ≡ Reading refusal.Require
+fifth (Reading refusal.Layout) e = absurd (omega arith)
+fifth (Reading refusal.CSeq) e = absurd (omega arith)
+fifth (Reading refusal.RequestLine) e = absurd (omega arith)
+fifth (Reading refusal.HeaderTwice) e = absurd (omega arith)
+fifth (Reading refusal.Version) e = absurd (omega arith)
+fifth (Reading refusal.Require) e = refl
+fifth (Reading refusal.Method) e = absurd (omega arith)
+fifth (Reading refusal.UriLong) e = absurd (omega arith)
+fifth (Reading refusal.UriForm) e = absurd (omega arith)
+fifth (Reading refusal.QueryUntaken) e = absurd (omega arith)
+fifth (Reading refusal.QueryForm) e = absurd (omega arith)
+fifth (Reading refusal.PidsClash) e = absurd (omega arith)
+fifth (Reading refusal.PidsUnstreamed) e = absurd (omega arith)
+fifth (Reading refusal.Value) e = absurd (omega arith)
+fifth (Reading refusal.NoStream) e = absurd (omega arith)
+fifth NoSession e = absurd (omega arith)
+fifth NotLive e = absurd (omega arith)
+fifth State e = absurd (omega arith)
+fifth NotOwner e = absurd (omega arith)
+fifth Transport e = absurd (omega arith)
+fifth Combination e = absurd (omega arith)
+fifth TooManyPids e = absurd (omega arith)
+fifth NotReached e = absurd (omega arith)
+fifth Full e = absurd (omega arith)
 
 -- the lines of a kind are those of its method or its step
-granted_told : (method : Method) (host : List ℕ) (c : Case) (r : Request) (session : Session) → lines_by (granted_kind method) host (reply_to c r session) ≡ granted_lines method host session
+granted_told : (method : Method) (host : List ℕ) (c : Option Case) (r : Request) (session : Session) → lines_by (granted_kind method) host (reply_to c r session) ≡ granted_lines method host session
 unfolding reply_to
 granted_told Options host c r session = refl
 granted_told Setup host c r session = refl
@@ -206,51 +171,52 @@ module _ (frontends : ℕ) (s : List ℕ) (r : Request) (i : RequestIs frontends
   text_after : r.refusal ≡ None → text_at s r.require ≡ []
   text_after p = text_none (λ e. let n : None ≡ Some refusal.Require = sym p ∙ e in cc)
 
-  required_by : {x : Refusal} → r.refusal ≡ Some x → eqb (reading_rule x).0 5 ≡ true → head_refusal s ≡ Some refusal.Require
-  required_by {x} n e = required frontends s (sym i.refusal ∙ n ∙ ap Some (fifth x (eqb-true (reading_rule x).0 5 e)))
+  required_by : {c : Case} → Follows r (Some c) → eqb (rule_of c).0 5 ≡ true → head_refusal s ≡ Some refusal.Require
+  required_by {c} p y = required frontends s (sym i.refusal ∙ by p (fifth c (eqb-true (rule_of c).0 5 y)))
+    where
+      by : Follows r (Some c) → c ≡ Reading refusal.Require → r.refusal ≡ Some refusal.Require
+      by (follows_passed q n) e = absurd (n refusal.Require (ap Some e))
+      by (follows_refused x q n) e = let k : x ≡ refusal.Require = cc in rw k at n
+
+  -- nothing else is told
+  untold : {c : Case} → Follows r (Some c) → eqb (rule_of c).0 5 ≡ false → text_at s r.require ≡ []
+  untold (follows_passed q n) z = text_after q
+  untold {c} (follows_refused x q n) z = text_none (λ k. let e : c ≡ Reading refusal.Require = cc in eqb-false (rule_of c).0 5 z (ap (λ d. (rule_of d).0) e))
 
   -- which place of the request is repeated
-  abbrev word_at : Case → Span
+  abbrev word_at : Option Case → Span
   word_at c = cond (is_passed c) r.host r.require
 
-  -- and which lines are written
-  abbrev lines_in : Case → Session → List ℕ
-  lines_in c session = cond (is_passed c) (granted_lines (method_of s) (host_of (uri_of s)) session) (refused_lines (rule_of c).0 (first_value (values_of 3 (header_lines s))))
-
-  lines_told_law : (c : Case) (session : Session) → Follows r c → lines_of (text_at s (word_at c)) (reply_to c r session) ≡ lines_in c session
+  lines_told_law : (c : Option Case) (session : Session) → Follows r c → lines_of (text_at s (word_at c)) (reply_to c r session) ≡ reply_lines c s session
   unfolding reply_to
-  lines_told_law c session (follows_passed p n) =
-      unread_keeps (λ x. lines_by (kind_of x r.method) (text_at s (word_at x)) (reply_to x r session) ≡ lines_in x session)
-      (granted_told r.method (text_at s r.host) Passed r session
+  lines_told_law None session (follows_passed p n) =
+      granted_told r.method (text_at s r.host) None r session
       ∙ ap (λ m. granted_lines m (text_at s r.host) session) (i.method p)
-      ∙ ap (λ host. granted_lines (method_of s) host session) (text_held s (host_of (uri_of s)) r.host (i.host p)))
-      (λ x b. rw (b.1 r.method, b.0) (sym (b.2 (first_value (values_of 3 (header_lines s)))))) c n
-  lines_told_law c session (follows_refused x e n) =
-      rw e
-      (refused_told (reading_rule x).0 (text_at s (word_at (Reading x))) (first_value (values_of 3 (header_lines s))) (reply_to (Reading x) r session)
-      (λ y. rw (reading_refuses x) (text_held s _ r.require (i.require (required_by n y))))
-      ∙ rw (reading_refuses x))
+      ∙ ap (λ host. granted_lines (method_of s) host session) (text_held s (host_of (uri_of s)) r.host (i.host p))
+  lines_told_law None session (follows_refused x e n) = cc
+  lines_told_law (Some c) session p =
+      refused_told (rule_of c).0 (text_at s r.require) (first_value (values_of 3 (header_lines s))) (reply_to (Some c) r session) (λ y. text_held s _ r.require (i.require (required_by p y)))
 
   -- and the digits of CSeq are those that were sent
   cseq_told : text_at s r.cseq ≡ cseq_of s
   cseq_told = text_held s (cseq_of s) r.cseq i.cseq.held
 
   -- THE ANSWER IS WHAT THE REQUEST'S BYTES SAY
-  pub reply_told : (c : Case) (session : Session) → Follows r c → answer_text s (reply_to c r session) ≡ reply_text c s session
+  pub reply_told : (c : Option Case) (session : Session) → Follows r c → answer_text s (reply_to c r session) ≡ reply_text c s session
   unfolding reply_to reply_text
   reply_told c session p =
-      ap (answer_lines (rule_of c).1 (text_at s r.cseq)) (lines_told_law c session p)
-      ∙ ap (λ digits. answer_lines (rule_of c).1 digits (lines_in c session)) cseq_told
+      ap (answer_lines (status_of c) (text_at s r.cseq)) (lines_told_law c session p)
+      ∙ ap (λ digits. answer_lines (status_of c) digits (reply_lines c s session)) cseq_told
 
   -- ITS WORD IS SHORT
-  word_short : (c : Case) → Follows r c → length (text_at s (word_at c)) ≤ 2048
-  word_short c (follows_passed p n) = omega (arith, text_within s (word_at c), asked_short frontends s (sym i.refusal ∙ p))
-  word_short c (follows_refused x e n) =
-      rw (e, reading_refuses x)
-      (by_test (λ _. length (text_at s r.require) ≤ 2048) (eqb (reading_rule x).0 5)
-      (λ y. let h = required_by n y in
+  word_short : (c : Option Case) → Follows r c → length (text_at s (word_at c)) ≤ 2048
+  word_short None (follows_passed p n) = omega (arith, text_within s r.host, asked_short frontends s (sym i.refusal ∙ p))
+  word_short None (follows_refused x e n) = cc
+  word_short (Some c) p =
+      by_test (λ _. length (text_at s r.require) ≤ 2048) (eqb (rule_of c).0 5)
+      (λ y. let h = required_by p y in
       omega (arith, text_within s r.require, head_short s (λ z. let k : ◌≡◌ {A = Option Refusal} (Some refusal.Require) (Some refusal.Layout) = sym h ∙ z in cc)))
-      (λ z. rw (text_none (λ k. let o : x ≡ refusal.Require = let m : Some x ≡ Some refusal.Require = sym n ∙ k in cc in eqb-false (reading_rule x).0 5 z (ap (λ r. (reading_rule r).0) o))) (omega arith)))
+      (λ z. rw (untold p z) (omega arith))
 
 -- EVERY ANSWER FITS
 status_read : (q : Refusal) → (reading_rule q).1 < 1000
@@ -270,18 +236,18 @@ status_read refusal.PidsUnstreamed = omega arith
 status_read refusal.Value = omega arith
 status_read refusal.NoStream = omega arith
 
-pub status_small : (c : Case) → (rule_of c).1 < 1000
-status_small Passed = omega arith
-status_small (Reading q) = status_read q
-status_small NoSession = omega arith
-status_small NotLive = omega arith
-status_small State = omega arith
-status_small NotOwner = omega arith
-status_small Transport = omega arith
-status_small Combination = omega arith
-status_small TooManyPids = omega arith
-status_small NotReached = omega arith
-status_small Full = omega arith
+pub status_small : (c : Option Case) → status_of c < 1000
+status_small None = omega arith
+status_small (Some (Reading q)) = status_read q
+status_small (Some NoSession) = omega arith
+status_small (Some NotLive) = omega arith
+status_small (Some State) = omega arith
+status_small (Some NotOwner) = omega arith
+status_small (Some Transport) = omega arith
+status_small (Some Combination) = omega arith
+status_small (Some TooManyPids) = omega arith
+status_small (Some NotReached) = omega arith
+status_small (Some Full) = omega arith
 
 -- CSeq has ten digits at most
 abbrev IsShort : List ℕ → Type 0
@@ -306,7 +272,7 @@ pub record Numbers (session : Session) : Type 0 where
   pub port : session.port < 4294967296
 
 module _ (frontends : ℕ) (s : List ℕ) (r : Request) (i : RequestIs frontends s r) where
-  pub reply_fits : (c : Case) (session : Session) → Follows r c → Numbers session → length (reply_text c s session) ≤ 4096
+  pub reply_fits : (c : Option Case) (session : Session) → Follows r c → Numbers session → length (reply_text c s session) ≤ 4096
   unfolding reply_to
   reply_fits c session p n =
       subst (λ t. length t ≤ 4096) (reply_told frontends s r i c session p)

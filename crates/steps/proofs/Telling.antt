@@ -1,7 +1,7 @@
 -- What the reader hands over of a request that it lets through is what the request asks; and what such a request asks is in range.
 -- Assumes nothing.
 use mathlib.Core.Path.{◌≡◌, refl, ap, subst, ◌∙◌, sym}
-use mathlib.Core.Bool.{Bool, true, false, not}
+use mathlib.Core.Bool.{Bool, true, false, not, ◌||◌}
 use mathlib.Core.List.{List, [], ◌∷◌, map}
 use Prim.Native.Nat.{ℕ, zero, suc, ◌+◌, ◌%◌, ◌≤◌, ◌<◌}
 use native.Mathlib.Decide.{ℕ_discrete}
@@ -10,25 +10,32 @@ use lib.Dec.{eqb, leb, ltb}
 use lib.ListN.{length, drop, get_or}
 use lib.Seq.{ext_get_or}
 use borrow.Author.Tests.{ltb-true, leb-true, eqb-true, le-ltb, lt-ltb}
-use Rattle.scan.specs.Text.{text}
+use Rattle.scan.specs.Text.{text, is_empty, are_alike}
+use Rattle.scan.specs.declared.Case.TheVariants.{Counts}
 use Rattle.scan.specs.Lists.{part, ◌gives◌or◌}
-use Rattle.scan.proofs.Bools.{by_cases, cond_keeps, and_both, or_right}
+use Rattle.scan.proofs.Bools.{never, by_cases, cond_keeps, and_both, or_right}
 use Rattle.scan.proofs.Parts.{holds_length}
 use Rattle.digits.specs.Reading.{read_number, at_least}
 use Rattle.digits.specs.declared.Zeros.TheVariants.{Allowed, Refused}
 use Rattle.std.specs.Prelude.{Option, Some, None, IfSome}
 use Rattle.digits.proofs.Limits.{number_between}
-use Rattle.lines.specs.Lines.{is_laid_out}
+use Rattle.lines.specs.Lines.{is_laid_out, request_line, header_lines}
+use Rattle.lines.specs.Headers.{values_of}
+use Rattle.target.specs.Line.{is_three, line_part}
 use Rattle.target.specs.Uri.{starts_with, query_of}
 use Rattle.tuning.specs.Values.{value_of}
 use Rattle.stream.specs.Arrays.{kept, is_fit, are_fit, is_in}
 use Rattle.stream.proofs.Fitting.{all_in, fit_of, read_ranged}
 use Rattle.aim.specs.Query.{code_from, parts_of, text_in, code_in}
 use Rattle.refusals.specs.declared.Refusal.{Refusal}
-use Rattle.refusals.specs.declared.Refusal.TheVariants.{Layout}
+use Rattle.refusals.specs.declared.Refusal.TheVariants.{Layout, CSeq, RequestLine, HeaderTwice, Version, Require}
+use Rattle.refusals.specs.declared.Refusal.TheVariants.{Method as OtherMethod}
+use Rattle.refusals.specs.Refusals.{is_read}
+use Rattle.aim.specs.Aim.{method_number}
+use Rattle.aim.specs.declared.Method.TheVariants.{Other}
 use Rattle.reader.specs.Fields.{transport_of, ports_in, port_from}
 use Rattle.reader.specs.Heads.{is_pair, dash, RequestIs}
-use Rattle.reader.specs.Request.{uri_of, head_refusal, request_refusal}
+use Rattle.reader.specs.Request.{uri_of, method_of, cseq_of, is_twice, head_refusal, request_refusal}
 use Rattle.reader.specs.declared.Request.{Request}
 use Rattle.std.specs.Prelude.{Option, Some, None}
 use Rattle.steps.specs.Sights.{codes_in, asked_of, lists_of}
@@ -126,7 +133,29 @@ asked_port v port e =
     ports_paired (at_least 1024 (read_number Refused 5 65534 (part 0 (dash ports) ports))) _ (number_between Refused 5 1024 65534 (part 0 (dash ports) ports)))
     (λ _. tt))
 
+-- A CHAIN OF TESTS that lets through: none of them holds
+pub chain : {A : Type 0} (b : Bool) (c : A) (d : Option A) → (b gives Some c or d) ≡ None → (b ≡ false) × (d ≡ None)
+chain true c d e = cc
+chain false c d e = (refl, e)
+
 -- A REQUEST THAT STEPS 1 TO 10 LET THROUGH
+-- has a method that document 01 names
+pub method_known : (frontends : ℕ) (s : List ℕ) → request_refusal frontends s ≡ None → method_of s ≡ Other → ⊥
+unfolding request_refusal head_refusal
+method_known frontends s p m =
+    let a = chain (not (is_laid_out s)) Layout _ (read_head (head_refusal s) _ p) in
+    let b = chain (is_empty (cseq_of s)) CSeq _ a.1 in
+    let c = chain (not (is_three (request_line s))) RequestLine _ b.1 in
+    let d = chain (is_twice 1 s || is_twice 2 s || is_twice 3 s || is_twice 4 s) HeaderTwice _ c.1 in
+    let e = chain (not (are_alike Counts (line_part 2 (request_line s)) (text "RTSP/1.0"))) Version _ d.1 in
+    let f = chain (ltb 0 (length (values_of 3 (header_lines s)))) Require _ e.1 in
+    let g = chain (eqb (method_number (method_of s)) 4) OtherMethod None f.1 in
+    never (rw m) g.0
+  where
+    read_head : (o u : Option Refusal) → (not (is_read o) gives o or u) ≡ None → o ≡ None
+    read_head None u e = refl
+    read_head (Some x) u e = e
+
 -- a request over 2,048 bytes is refused at step 1
 pub head_short : (s : List ℕ) → (head_refusal s ≡ Some Layout → ⊥) → length s ≤ 2048
 unfolding head_refusal is_laid_out

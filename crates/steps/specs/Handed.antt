@@ -1,13 +1,12 @@
 -- What the crates promise each other about a request that the reader hands over and the answer that is written, in the numbers and places that
 -- the code hands on. No call of the box reaches these; laws tie them to the meanings of the request's bytes (`Telling`, `ReplyLaws`).
 -- Assumes nothing.
-use Rattle.std.specs.Prelude.{ℕ, cond, List, eqb, ltb, get_or}
+use Rattle.std.specs.Prelude.{ℕ, cond, List, eqb, ltb, get_or, Option, Some, None}
 use Rattle.scan.specs.Lists.{part, ◌gives◌or◌}
 use Rattle.scan.specs.Found.{Holds, nowhere}
 use Rattle.scan.specs.declared.Span.{Span}
 use Rattle.aim.specs.declared.Method.{Method}
 use Rattle.aim.specs.declared.Method.TheVariants.{Options, Setup, Play, Teardown, Other}
-use Rattle.refusals.specs.declared.Refusal.{Refusal}
 use Rattle.reader.specs.declared.Request.{Request}
 use Rattle.table.specs.declared.Session.{Session}
 use Rattle.answer.specs.declared.Kind.{Kind}
@@ -15,10 +14,8 @@ use Rattle.answer.specs.declared.Kind.TheVariants as kind
 use Rattle.answer.specs.declared.Answer.{Answer}
 use Rattle.steps.specs.Sights.{Asked, Lists, is_absent, port_of}
 use Rattle.steps.specs.declared.Sight.{Sight}
-use Rattle.steps.specs.Steps.{rule_of, is_passed}
+use Rattle.steps.specs.Steps.{rule_of, status_of, is_passed}
 use Rattle.steps.specs.declared.cases.Case.{Case}
-use Rattle.steps.specs.declared.cases.Case.TheVariants.{Passed, Reading, NoSession, NotLive, State, NotOwner, Transport, Combination, TooManyPids, NotReached, Full}
-use Rattle.refusals.specs.Refusals.{reading_rule}
 
 abbrev pub asked_by : Request → Asked
 asked_by r =
@@ -66,11 +63,11 @@ pub record Told (s : List ℕ) (r : Request) : Type 0 where
   pub list : (attribute : ℕ) → Holds (query_by s r) (list_by s r attribute) (span_in r attribute).start (span_in r attribute).end
 
 -- WHICH ANSWER IT GETS
-abbrev pub refused_kind : Refusal → Kind
-refused_kind refusal =
-    eqb (reading_rule refusal).0 5 gives kind.Unsupported or
-    eqb (reading_rule refusal).0 6 gives kind.Public or
-    eqb (reading_rule refusal).0 10 gives kind.Allow or
+abbrev pub refused_kind : Case → Kind
+refused_kind c =
+    eqb (rule_of c).0 5 gives kind.Unsupported or
+    eqb (rule_of c).0 6 gives kind.Public or
+    eqb (rule_of c).0 10 gives kind.Allow or
     kind.Bare
 
 abbrev pub granted_kind : Method → Kind
@@ -80,25 +77,16 @@ granted_kind Play = kind.Play
 granted_kind Teardown = kind.Teardown
 granted_kind Other = kind.Bare
 
-abbrev pub kind_of : Case → Method → Kind
-kind_of Passed method = granted_kind method
-kind_of (Reading refusal) method = refused_kind refusal
-kind_of NoSession method = kind.Bare
-kind_of NotLive method = kind.Bare
-kind_of State method = kind.Bare
-kind_of NotOwner method = kind.Bare
-kind_of Transport method = kind.Bare
-kind_of Combination method = kind.Bare
-kind_of TooManyPids method = kind.Bare
-kind_of NotReached method = kind.Bare
-kind_of Full method = kind.Bare
+abbrev pub kind_of : Option Case → Method → Kind
+kind_of None method = granted_kind method
+kind_of (Some c) method = refused_kind c
 
 -- the word that it repeats is the host on 200, and else the Require value
-unfoldable pub reply_to : Case → Request → Session → Answer
+unfoldable pub reply_to : Option Case → Request → Session → Answer
 reply_to case r s =
     record {
       kind = kind_of case r.method;
-      status = (rule_of case).1;
+      status = status_of case;
       cseq = r.cseq;
       session = s.number;
       stream = s.stream;

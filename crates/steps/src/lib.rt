@@ -12,7 +12,7 @@ ghost use Rattle.steps.specs.Sights.{is_absent, session_number};
 ghost use Rattle.steps.specs.Steps.{table_case};
 
 use aim::Method;
-pub use cases::{Case, is_passed};
+pub use cases::Case;
 use reader::Request;
 pub use replies::answer_to;
 use table::Session;
@@ -72,24 +72,24 @@ pub fn sight_of(r: Request, place: usize, session: Session, frontend: u8, reach:
     }
 }
 
-// The first of steps 11 to 15 that refuses.
-pub fn case_of(v: Sight) -> Case
+// The first of steps 11 to 15 that refuses, if one does.
+pub fn case_of(v: Sight) -> Option<Case>
     ensures { result ≡ table_case v }
 {
     if tests::lacks_session(v) {
-        return Case::NoSession;
+        return Some(Case::NoSession);
     }
     if tests::is_dead(v) {
-        return Case::NotLive;
+        return Some(Case::NotLive);
     }
     if tests::is_out_of_state(v) {
-        return Case::State;
+        return Some(Case::State);
     }
     if tests::is_anothers(v) {
-        return Case::NotOwner;
+        return Some(Case::NotOwner);
     }
     if tests::lacks_port(v) {
-        return Case::Transport;
+        return Some(Case::Transport);
     }
-    Case::Passed
+    None
 }

@@ -3,20 +3,19 @@ ghost use Rattle.std.specs.Prelude.{◌≡◌, cond};
 ghost use Rattle.steps.specs.Steps.{is_passed};
 ghost use Rattle.steps.specs.Handed.{refused_kind, granted_kind, kind_of, reply_to};
 
+use crate::Case;
 use crate::cases;
-use crate::cases::Case;
 use aim::Method;
 use answer::{Answer, Kind};
 use reader::Request;
-use refusals::Refusal;
 use scan::Span;
 use table::Session;
 
-// What a request carries that steps 1 to 10 refuse.
-fn refused_kind(refusal: Refusal) -> Kind
-    ensures { result ≡ refused_kind refusal }
+// What a request carries that is refused.
+fn refused_kind(case: Case) -> Kind
+    ensures { result ≡ refused_kind case }
 {
-    match refusals::step(refusal) {
+    match case.step() {
         5 => Kind::Unsupported,
         6 => Kind::Public,
         10 => Kind::Allow,
@@ -36,34 +35,33 @@ fn granted_kind(method: Method) -> Kind
     }
 }
 
-fn kind_of(case: Case, method: Method) -> Kind
+fn kind_of(case: Option<Case>, method: Method) -> Kind
     ensures { result ≡ kind_of case method }
 {
     match case {
-        Case::Passed => granted_kind(method),
-        Case::Reading(refusal) => refused_kind(refusal),
-        _ => Kind::Bare,
+        None => granted_kind(method),
+        Some(case) => refused_kind(case),
     }
 }
 
 // The place of the word that an answer repeats: the host on 200, and else the Require value.
-fn word_of(case: Case, host: Span, require: Span) -> Span
+fn word_of(case: Option<Case>, host: Span, require: Span) -> Span
     ensures { result ≡ cond (is_passed case) host require }
 {
-    if cases::is_passed(case) {
+    if case.is_none() {
         host
     } else {
         require
     }
 }
 
-// The answer to a request, with the session that it is about.
-pub fn answer_to(case: Case, r: Request, s: Session) -> Answer
+// The answer to a request by the case that refuses it, if one does, with the session that it is about.
+pub fn answer_to(case: Option<Case>, r: Request, s: Session) -> Answer
     ensures { result ≡ reply_to case r s }
 {
     Answer {
         kind: kind_of(case, r.method),
-        status: cases::status(case) as u32,
+        status: cases::status_of(case) as u32,
         cseq: r.cseq,
         session: s.number,
         stream: s.stream as u32,
