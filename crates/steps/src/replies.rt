@@ -3,8 +3,7 @@ ghost use Rattle.std.specs.Prelude.{◌≡◌, cond};
 ghost use Rattle.steps.specs.Steps.{is_passed};
 ghost use Rattle.steps.specs.Handed.{refused_kind, granted_kind, kind_of, reply_to};
 
-use crate::Case;
-use crate::cases;
+use crate::{Case, cases};
 use aim::Method;
 use answer::{Answer, Kind};
 use reader::Request;
@@ -48,11 +47,7 @@ fn kind_of(case: Option<Case>, method: Method) -> Kind
 fn word_of(case: Option<Case>, host: Span, require: Span) -> Span
     ensures { result ≡ cond (is_passed case) host require }
 {
-    if case.is_none() {
-        host
-    } else {
-        require
-    }
+    if case.is_none() { host } else { require }
 }
 
 // The answer to a request by the case that refuses it, if one does, with the session that it is about.
