@@ -304,7 +304,7 @@ odd_read : ReadsAs odd odd_asked odd_lists
 unfolding reading
 odd_read = record { no_fe = refl; passed = refl; asked = refl; lists = refl }
 
-odd_refused : (t : SatBox) (c : Client) → (served t odd_asked odd_lists c).case ≡ Transport
+odd_refused : (t : SatBox) (c : Client) → (served t odd_asked odd_lists c).case ≡ Some Transport
 unfolding serving
 odd_refused t c = refl
 

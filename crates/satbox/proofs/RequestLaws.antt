@@ -1,7 +1,7 @@
 -- A request by the ways it ends: each refusal of the call, and done; and that its answer is the meaning's and fits. Assumes nothing.
 use Rattle.std.specs.Prelude.{Result, Ok, Err, Option, Some, None}
 use mathlib.Core.Path.{◌≡◌, refl, sym, ◌∙◌, ap, subst}
-use mathlib.Core.Bool.{true, false, not, ◌&&◌}
+use mathlib.Core.Bool.{false, not, ◌&&◌}
 use mathlib.Core.List.{List, ◌++◌}
 use Prim.Native.Nat.{ℕ, ◌≤◌, ◌<◌}
 use native.Mathlib.Omega.{arith}
@@ -20,7 +20,6 @@ use Rattle.reader.specs.declared.Request.{Request}
 use Rattle.reader.proofs.RequestLaws.{passed_is}
 use Rattle.answer.specs.Answers.{answer_text}
 use Rattle.answer.specs.declared.Answer.{Answer}
-use Rattle.table.specs.Formed.{well_formed}
 use Rattle.table.specs.declared.Session.{Session}
 use Rattle.table.specs.declared.SatBox.{SatBox}
 use Rattle.table.specs.declared.Refusal.{Refusal}
@@ -35,7 +34,7 @@ use Rattle.steps.specs.Handed.{reply_to}
 use Rattle.steps.specs.declared.cases.Case.TheVariants.{Reading, NotReached, Full}
 use Rattle.steps.proofs.ReplyLaws.{Follows, follows_passed, follows_refused, IsUnread, unread_chain, table_unread, reply_told, Numbers, reply_fits}
 use Rattle.closings.specs.Does.{Does}
-use Rattle.closings.specs.Closing.{swept, sweeping, at_clock, bytes_of}
+use Rattle.closings.specs.Closing.{swept, at_clock, bytes_of}
 use Rattle.serving.specs.Serving.{Serving, merging, merges, merge_case, is_unreached, is_opening, can_seat, case_of, kept, denied, grant, served, client_of, answered}
 use Rattle.serving.specs.Turns.{change_case, reason_of, about_of, performed, TurnIs}
 use Rattle.satbox.specs.Calls.{request_outcome, requested, answer_of, replied, replied_into, replied_journal}
@@ -45,8 +44,7 @@ use Rattle.serving.specs.declared.Turn.{Turn}
 use Rattle.satbox.specs.declared.Response.{Response}
 use Rattle.closings.proofs.DoesLaws.{does_then}
 use Rattle.closings.proofs.Closings.{swept_fine}
-use Rattle.closings.proofs.Keeping.{Whole, whole_roomy, clock_whole, whole_formed}
-use Rattle.satbox.proofs.Kept.{sweeping_whole}
+use Rattle.closings.proofs.Keeping.{Whole, whole_roomy, clock_whole}
 
 -- STEPS 11 TO 18 are none of the reading's
 change_unread : (t : SatBox) (a : Asked) (l : Lists) → IsUnread (change_case t a l)
@@ -130,12 +128,6 @@ module _ (s : List ℕ) (address draw : ℕ) (t : SatBox) (r : Request) (i : Req
     answer_done = let c = answer_front.1 in record { turn = p; count = c; buffer = rw c answer_front.0 }
 
 -- THE CALL
--- what is answered is answered on a well-formed table
-pub swept_formed : {t u v : SatBox} {j k : List ℕ} (clock : ℕ) → Whole t → u ≡ at_clock clock t → Does u j (swept u) v k → well_formed v ≡ true
-swept_formed {t} {u} {v} {j} {k} clock w e p =
-    let q = subst (λ x. Does x j (swept x) v k) e p in
-    rw q.satbox (whole_formed (sweeping clock t).satbox (sweeping_whole clock t w))
-
 module _ (s : List ℕ) (clock address draw : ℕ) (t : SatBox) (b j : List ℕ) where
   -- what the contract says of what is returned, the box, the answer buffer and the journal
   abbrev pub Replies : Result ℕ Refusal → SatBox → List ℕ → List ℕ → Type 0
