@@ -17,8 +17,8 @@ use Rattle.scan.proofs.Parts.{all_same, holds_nothing, holds_length}
 use Rattle.target.specs.Uri.{is_uri, has_query, query_of}
 use Rattle.target.specs.declared.Uri.{Uri}
 use Rattle.aim.specs.Query.{are_parts, text_in, code_from, code_in}
-use Rattle.aim.specs.Found.{is_within, is_query, text_of, QueryIs, Reached, Refuses, unasked, verdict_of, is_span, AimIs, judged, takes_no_query, lacks_stream}
-use Rattle.std.specs.Prelude.{Option, Some, None, Result, Ok, Err, MatchResult, is_some, MatchOption, ok_or}
+use Rattle.aim.specs.Found.{is_within, is_query, text_of, QueryIs, query_start, Reached, Refuses, unasked, verdict_of, is_span, AimIs, judged, takes_no_query, lacks_stream}
+use Rattle.std.specs.Prelude.{Option, Some, None, Result, Ok, Err, MatchResult, is_some, MatchOption, IfSome, unwrap_or, ok_or}
 use Rattle.std.specs.Bool.{then_some}
 use Rattle.target.specs.Steps.{question}
 use Rattle.aim.specs.Aim.{has_stream, uri_refusal}
@@ -83,7 +83,7 @@ unqueried u e = drop_of_length-le u {i = first (is 63) u + 1} (omega (arith, ltb
 
 module _ (frontends : ℕ) (method : Method) (u : List ℕ) {t : Uri} (r : Reached u t None) where
   unasked_by : (l : Bool) → lacks_stream method (not (eqb t.stream 0)) false ≡ l
-      → MatchResult (cond l (Err NoStream) (Ok (record { codes = replicate 13 0; spans = replicate 13 nowhere; stream = t.stream; host = t.host; query = nowhere }))) (AimIs frontends method u) (Refuses frontends method u)
+      → MatchResult (cond l (Err NoStream) (Ok (record { codes = replicate 13 0; spans = replicate 13 nowhere; stream = t.stream; host = t.host; query = None }))) (AimIs frontends method u) (Refuses frontends method u)
   unfolding text_in code_in
   unasked_by true y = chain frontends method u r ∙ rw (lacks y)
     where
@@ -94,12 +94,12 @@ module _ (frontends : ℕ) (method : Method) (u : List ℕ) {t : Uri} (r : Reach
         passes = chain frontends method u r ∙ rw (ap (λ x. lacks_stream method x false) (sym (stream_named_law frontends method u r refl)) ∙ n);
         stream = r.is.stream;
         host = r.is.host;
-        query = rw (unqueried u (asks frontends method u r)) (holds_nothing u);
+        query = tt;
         thirteen = (refl, refl);
         codes = λ a. rw (asks frontends method u r, all_same {A = ℕ} 13 a 0, value_none frontends a);
         spans = λ a. rw (unqueried u (asks frontends method u r), asks frontends method u r, all_same 13 a nowhere) (holds_nothing []);
         host_starts = r.is.starts;
-        query_starts = rw (asks frontends method u r);
+        query_place = rw (asks frontends method u r);
         starts = λ a. rw (asks frontends method u r, all_same 13 a nowhere);
       }
 
@@ -145,7 +145,7 @@ module _ (frontends : ℕ) (method : Method) (u : List ℕ) {t : Uri} {start : �
       asked_refused d = sym (d ∙ verdict_is)
 
       pub asked_passed : None ≡ verdict_of method s q
-          → AimIs frontends method u (record { codes = q.codes; spans = q.spans; stream = t.stream; host = t.host; query = record { start = start; end = length u } })
+          → AimIs frontends method u (record { codes = q.codes; spans = q.spans; stream = t.stream; host = t.host; query = Some (record { start = start; end = length u }) })
       asked_passed p =
           record {
             passes = sym (p ∙ verdict_is);
@@ -156,9 +156,21 @@ module _ (frontends : ℕ) (method : Method) (u : List ℕ) {t : Uri} {start : �
             codes = λ a. rw (asks frontends method u r) (own.codes a);
             spans = λ a. rw (asks frontends method u r) (own.spans a);
             host_starts = r.is.starts;
-            query_starts = rw (asks frontends method u r) place;
+            query_place = rw (asks frontends method u r, place);
             starts = λ a. rw (asks frontends method u r) (own.starts a);
           }
         where
           place : start ≡ question u + 1
           place = let z : Some start ≡ then_some (has_query u) (question u + 1) = sym r.query ∙ r.is.place in let y : Some start ≡ Some (question u + 1) = z ∙ rw (asks frontends method u r) in cc
+
+-- where the query of what was read stands, 0 to 0 where there is none
+pub queried : {frontends : ℕ} {method : Method} {u : List ℕ} {r : Aim} → AimIs frontends method u r
+    → Holds u (query_of u) (unwrap_or r.query nowhere).start (unwrap_or r.query nowhere).end × ((unwrap_or r.query nowhere).start ≡ query_start u)
+queried {u = u} {r} i = by (has_query u) refl r.query i.query_place i.query
+  where
+    by : (t : Bool) → has_query u ≡ t → (q : Option Span) → q ≡ then_some t (record { start = question u + 1; end = length u }) → IfSome q (λ x. Holds u (query_of u) x.start x.end)
+        → Holds u (query_of u) (unwrap_or q nowhere).start (unwrap_or q nowhere).end × ((unwrap_or q nowhere).start ≡ cond t (question u + 1) 0)
+    by true e (Some x) p h = (h, cc)
+    by true e None p h = cc
+    by false e (Some x) p h = cc
+    by false e None p h = (rw (unqueried u e) (holds_nothing u), refl)

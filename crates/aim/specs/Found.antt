@@ -1,6 +1,7 @@
 -- What the functions of this crate promise each other and the crates above: what was found of a query and a URI, and where it stands. No call
 -- of the box reaches it. Assumes nothing.
-use Rattle.std.specs.Prelude.{ℕ, ◌+◌, ◌≤◌, ◌≡◌, true, false, Bool, not, cond, ◌&&◌, ◌||◌, List, [], ◌∷◌, eqb, ltb, length, get_or, replicate, Option, MatchOption, Result, Ok, Err, Some, is_some, None}
+use Rattle.std.specs.Prelude.{ℕ, ◌+◌, ◌≤◌, ◌≡◌, true, false, Bool, not, cond, ◌&&◌, ◌||◌, List, [], ◌∷◌, eqb, ltb, length, get_or, replicate, Option, MatchOption, IfSome, Result, Ok, Err, Some, is_some, None}
+use Rattle.std.specs.Bool.{then_some}
 use Rattle.scan.specs.Found.{Holds, nowhere, place_in}
 use Rattle.aim.specs.declared.query.Part.{Part}
 use Rattle.aim.specs.declared.query.Query.{Query}
@@ -96,7 +97,11 @@ pub record QueryIs (frontends : ℕ) (q : List ℕ) (r : Query) : Type 0 where
 abbrev pub start_in : ℕ → List ℕ → ℕ
 start_in a u = cond (has_query u) (start_of a (query_of u)) 0
 
--- where a URI's query starts, 0 where there is none
+-- where a URI's query stands, if there is one
+abbrev pub query_span : List ℕ → Option Span
+query_span u = then_some (has_query u) (record { start = question u + 1; end = length u })
+
+-- and where it starts, 0 where there is none
 abbrev pub query_start : List ℕ → ℕ
 query_start u = cond (has_query u) (question u + 1) 0
 
@@ -131,7 +136,7 @@ verdict_of method stream q =
 abbrev pub unasked : Method → Uri → Result Aim Refusal
 unasked method t =
     cond (lacks_stream method (not (eqb t.stream 0)) false) (Err NoStream)
-    (Ok (record { codes = replicate 13 0; spans = replicate 13 nowhere; stream = t.stream; host = t.host; query = nowhere }))
+    (Ok (record { codes = replicate 13 0; spans = replicate 13 nowhere; stream = t.stream; host = t.host; query = None }))
 
 -- the first refusal that applies
 abbrev pub Refuses : ℕ → Method → List ℕ → Refusal → Type 0
@@ -142,10 +147,10 @@ pub record AimIs (frontends : ℕ) (method : Method) (u : List ℕ) (r : Aim) : 
   pub passes : uri_refusal frontends method u ≡ None
   pub stream : Some r.stream ≡ stream_named u
   pub host : Holds u (host_of u) r.host.start r.host.end
-  pub query : Holds u (query_of u) r.query.start r.query.end
+  pub query : IfSome r.query (λ q. Holds u (query_of u) q.start q.end)
   pub thirteen : (length r.codes ≡ 13) × (length r.spans ≡ 13)
   pub codes : (a : ℕ) → get_or r.codes a 0 ≡ code_in frontends a (parts_of u)
   pub spans : (a : ℕ) → Holds (query_of u) (text_in a (parts_of u)) (get_or r.spans a nowhere).start (get_or r.spans a nowhere).end
   pub host_starts : r.host.start ≡ 7
-  pub query_starts : r.query.start ≡ query_start u
+  pub query_place : r.query ≡ query_span u
   pub starts : (a : ℕ) → (get_or r.spans a nowhere).start ≡ start_in a u

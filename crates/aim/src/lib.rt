@@ -5,7 +5,7 @@ mod query;
 
 ghost use Rattle.std.specs.Prelude.{◌≡◌, Some, MatchResult};
 ghost use Rattle.std.specs.Result.{result_err};
-ghost use Rattle.aim.specs.Found.{takes_no_query, lacks_stream, judged, is_span, verdict_of, Reached, unasked, AimIs, Refuses};
+ghost use Rattle.aim.specs.Found.{takes_no_query, lacks_stream, is_span, verdict_of, Reached, unasked, AimIs, Refuses};
 
 use query::Query;
 use refusals::Refusal;
@@ -22,15 +22,18 @@ pub enum Method {
     Other,
 }
 
-// What a URI asks: the stream named, or 0; where its host and its query stand; and of each attribute the code, 0 where it is not given,
-// and where its text stands in the query.
-#[derive(Clone, Copy)]
+// What a URI asks. Spans and no slices, since where a text stands is promised too (promises/proofs/Unique).
+#[derive(Clone, Copy, PartialEq, Eq, Debug)]
 pub struct Aim {
+    // Each attribute's code, 0 where it is not given: a number, since a stream's values are coded alike for C, and `stream::merge` promises
+    // for any thirteen codes.
     pub codes: [u32; 13],
+    // Where each attribute's text stands in the query, 0 to 0 where it is not given: an array of options takes 104 bytes of stack more.
     pub spans: [Span; 13],
+    // The stream named, 1 to 65535, or 0.
     pub stream: u32,
     pub host: Span,
-    pub query: Span,
+    pub query: Option<Span>,
 }
 
 impl Aim {
@@ -60,24 +63,6 @@ fn is_span(s: Span) -> bool
     s.start < s.end
 }
 
-fn judge(clash: bool, unstreamed: bool, outside: bool, lacks: bool) -> Result<(), Refusal>
-    ensures { result_err result ≡ judged clash unstreamed outside lacks }
-{
-    if clash {
-        return Err(Refusal::PidsClash);
-    }
-    if unstreamed {
-        return Err(Refusal::PidsUnstreamed);
-    }
-    if outside {
-        return Err(Refusal::Value);
-    }
-    if lacks {
-        return Err(Refusal::NoStream);
-    }
-    Ok(())
-}
-
 // A URI without a query.
 fn unasked(method: Method, uri: Uri) -> Result<Aim, Refusal>
     ensures { result ≡ unasked method uri }
@@ -90,7 +75,7 @@ fn unasked(method: Method, uri: Uri) -> Result<Aim, Refusal>
         spans: [Span { start: 0, end: 0 }; 13],
         stream: uri.stream,
         host: uri.host,
-        query: Span { start: 0, end: 0 },
+        query: None,
     })
 }
 
@@ -100,8 +85,19 @@ fn verdict(method: Method, stream: bool, query: &Query) -> Result<(), Refusal>
 {
     let pids = is_span(query.spans[10]);
     let edits = is_span(query.spans[11]) | is_span(query.spans[12]);
-    let lacks = lacks_stream(method, stream, true);
-    judge(pids & edits, edits & !stream, !query.within, lacks)
+    if pids & edits {
+        return Err(Refusal::PidsClash);
+    }
+    if edits & !stream {
+        return Err(Refusal::PidsUnstreamed);
+    }
+    if !query.within {
+        return Err(Refusal::Value);
+    }
+    if lacks_stream(method, stream, true) {
+        return Err(Refusal::NoStream);
+    }
+    Ok(())
 }
 
 // A URI with a query, which starts at a place.
@@ -119,10 +115,10 @@ fn asked(method: Method, u: &[u8], uri: Uri, start: usize, frontends: u8) -> Res
         spans: q.spans,
         stream: uri.stream,
         host: uri.host,
-        query: Span {
+        query: Some(Span {
             start,
             end: u.len(),
-        },
+        }),
     })
 }
 

@@ -6,14 +6,14 @@ ghost use Rattle.aim.specs.Found.{PartIs, is_query, QueryIs};
 use scan::{Class, Span};
 
 // One `name=value`: its attribute, and where its value starts.
-#[derive(Clone, Copy)]
+#[derive(Clone, Copy, PartialEq, Eq, Debug)]
 pub struct Part {
     pub attribute: usize,
     pub value: usize,
 }
 
 // A query: each attribute's code, 0 where it is not given, its text's place, and whether the values are in the table.
-#[derive(Clone, Copy)]
+#[derive(Clone, Copy, PartialEq, Eq, Debug)]
 pub struct Query {
     pub codes: [u32; 13],
     pub spans: [Span; 13],
@@ -24,12 +24,12 @@ pub struct Query {
 fn part_in(p: &[u8]) -> Option<Part>
     ensures { PartIs p.now result }
 {
-    let k = scan::first_in(p, Class::Is(b'='));
-    let value = k + 1;
+    let equals = scan::first_in(p, Class::Is(b'='));
+    let value = equals + 1;
     if p.len() <= value {
         return None;
     }
-    let attribute = tuning::attribute_of(&p[0..k])?;
+    let attribute = tuning::attribute_of(&p[0..equals])?;
     Some(Part { attribute, value })
 }
 

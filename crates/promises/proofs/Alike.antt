@@ -112,7 +112,7 @@ module _ (frontends : ℕ) (m : Methods) (u : List ℕ) where
       let d : a.spans ≡ b.spans = ext_get_or nowhere a.spans b.spans (p.thirteen.1 ∙ sym q.thirteen.1) (λ k _. span_same (p.starts k ∙ sym (q.starts k)) (p.spans k) (q.spans k)) in
       let e : a.stream ≡ b.stream = ap code_from (p.stream ∙ sym q.stream) in
       let f : a.host ≡ b.host = span_same (p.host_starts ∙ sym q.host_starts) p.host q.host in
-      let g : a.query ≡ b.query = span_same (p.query_starts ∙ sym q.query_starts) p.query q.query in
+      let g : a.query ≡ b.query = p.query_place ∙ sym q.query_place in
       λ i. record { codes = c i; spans = d i; stream = e i; host = f i; query = g i }
 
   pub aim_same : (x y : Result Aim Refusal) → MatchResult x (AimIs frontends m u) (Refuses frontends m u) → MatchResult y (AimIs frontends m u) (Refuses frontends m u) → x ≡ y

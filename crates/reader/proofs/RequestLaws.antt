@@ -21,7 +21,7 @@ use Rattle.digits.proofs.Limits.{are_digits_law}
 use Rattle.lines.specs.Lines.{is_laid_out, request_line, header_lines}
 use Rattle.lines.specs.Headers.{values_of}
 use Rattle.lines.specs.Laid.{first_value, times_of, place_of, first_seen, unseen, SeenIs, value_start, LinesAre}
-use Rattle.std.specs.Prelude.{Some, None, Option, is_some}
+use Rattle.std.specs.Prelude.{Some, None, Option, is_some, unwrap_or}
 use Rattle.lines.specs.declared.Seen.{Seen}
 use Rattle.lines.specs.declared.Seen.TheVariants.{Never, Once, Again}
 use Rattle.lines.specs.declared.Lines.{Lines}
@@ -32,6 +32,7 @@ use Rattle.reader.specs.Fields.{session_of, transport_of}
 use Rattle.reader.specs.Heads.{CseqSeen, cseq_place, CseqIs, StandsIn, session_in, head_text, session_seen, are_twice, Begun, Headed, Passing, uri_start, refused_request, RequestIs, is_other, is_version, method_in, are_repeated}
 use Rattle.aim.specs.Aim.{uri_refusal}
 use Rattle.aim.specs.Found.{AimIs, Refuses}
+use Rattle.aim.proofs.AimLaws.{queried}
 use Rattle.refusals.specs.Refusals.{is_read, reading_rule}
 use Rattle.reader.specs.Request.{cseq_most, cseq_limit, cseq_of, method_of, uri_of, head_refusal, request_refusal}
 use Rattle.refusals.specs.declared.Refusal.{Refusal}
@@ -205,7 +206,7 @@ pub request_passed : {frontends : ℕ} {s : List ℕ} {l : Lines} {c : Span} {m 
       method = m;
       stream = a.stream;
       host = record { start = from + a.host.start; end = from + a.host.end };
-      query = record { start = from + a.query.start; end = from + a.query.end };
+      query = record { start = from + (unwrap_or a.query nowhere).start; end = from + (unwrap_or a.query nowhere).end };
       require = v;
       session = x;
       transport = y;
@@ -308,12 +309,12 @@ module _ (frontends : ℕ) (s : List ℕ) {l : Lines} {c : Span} {p : Parts} (h 
           method_is = e;
           stream = own.stream;
           host = moved own.host;
-          query = moved own.query;
+          query = moved (queried own).0;
           codes = own.codes;
           spans = own.spans;
           from_is = uri_starts;
           host_starts = own.host_starts;
-          query_starts = own.query_starts;
+          query_starts = (queried own).1;
           starts = own.starts;
           session = h.begun.lines.headers 1 (omega arith);
           transport = h.begun.lines.headers 2 (omega arith);

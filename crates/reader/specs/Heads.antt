@@ -1,6 +1,6 @@
 -- What the functions of this crate promise each other and the crates above: what a header's place holds, how far a request has come between
 -- them, and where in it stands what it asks. No call of the box reaches it. Assumes nothing.
-use Rattle.std.specs.Prelude.{ℕ, ◌+◌, ◌≤◌, ◌<◌, ◌%◌, ◌≡◌, Bool, true, false, cond, ◌||◌, ◌&&◌, List, [], ◌∷◌, ltb, eqb, length, get_or, replicate, Some, None}
+use Rattle.std.specs.Prelude.{ℕ, ◌+◌, ◌≤◌, ◌<◌, ◌%◌, ◌≡◌, Bool, true, false, cond, ◌||◌, ◌&&◌, List, [], ◌∷◌, ltb, eqb, length, get_or, replicate, Some, None, unwrap_or}
 use Rattle.scan.specs.Lists.{part, first}
 use Rattle.scan.specs.Found.{Holds, nowhere}
 use Rattle.digits.specs.Reading.{read_hex8}
@@ -113,12 +113,12 @@ pub record Passing (frontends : ℕ) (s : List ℕ) (l : Lines) (cseq : Span) (m
   pub method_is : method ≡ method_of s
   pub stream : Some a.stream ≡ stream_named (uri_of s)
   pub host : Holds s (host_of (uri_of s)) (from + a.host.start) (from + a.host.end)
-  pub query : Holds s (query_of (uri_of s)) (from + a.query.start) (from + a.query.end)
+  pub query : Holds s (query_of (uri_of s)) (from + (unwrap_or a.query nowhere).start) (from + (unwrap_or a.query nowhere).end)
   pub codes : (k : ℕ) → get_or a.codes k 0 ≡ code_in frontends k (parts_of (uri_of s))
   pub spans : (k : ℕ) → Holds (query_of (uri_of s)) (text_in k (parts_of (uri_of s))) (get_or a.spans k nowhere).start (get_or a.spans k nowhere).end
   pub from_is : from ≡ uri_start s
   pub host_starts : a.host.start ≡ 7
-  pub query_starts : a.query.start ≡ query_start (uri_of s)
+  pub query_starts : (unwrap_or a.query nowhere).start ≡ query_start (uri_of s)
   pub starts : (k : ℕ) → (get_or a.spans k nowhere).start ≡ start_in k (uri_of s)
   pub session : SeenIs s (values_of 1 (header_lines s)) (get_or l.headers 1 unseen)
   pub transport : SeenIs s (values_of 2 (header_lines s)) (get_or l.headers 2 unseen)

@@ -151,7 +151,7 @@ fn passed(
     let codes = a.codes;
     let spans = a.spans;
     let host = a.host;
-    let query = a.query;
+    let query = a.query.unwrap_or(Span { start: 0, end: 0 });
     Request {
         codes,
         spans,

@@ -176,7 +176,7 @@ pub fn are_alike(s: &[u8], t: &[u8], case: Case) -> bool
 }
 
 // A part of a slice, from start up to, not including, end.
-#[derive(Clone, Copy)]
+#[derive(Clone, Copy, PartialEq, Eq, Debug)]
 pub struct Span {
     pub start: usize,
     pub end: usize,

@@ -11,19 +11,20 @@ ghost use Rattle.target.specs.Uri.{starts_with, stream_of_path, is_uri};
 use digits::Zeros;
 use scan::{Case, Class, Span};
 
-// The places of the two spaces between the three parts of a request line.
-#[derive(Clone, Copy)]
+// The places of the two spaces between the three parts of a request line: places and no slices, since where a part stands is promised too
+// (promises/proofs/Unique).
+#[derive(Clone, Copy, PartialEq, Eq, Debug)]
 pub struct Parts {
     pub first: usize,
     pub second: usize,
 }
 
-// What a URI names.
-#[derive(Clone, Copy)]
+// What a URI names. Its host is a span and no slice, as the parts are.
+#[derive(Clone, Copy, PartialEq, Eq, Debug)]
 pub struct Uri {
     // Where its query starts, if one was sent; it ends where the URI ends.
     pub query: Option<usize>,
-    // The stream named, or 0.
+    // The stream named, 1 to 65535, or 0.
     pub stream: u32,
     pub host: Span,
 }
