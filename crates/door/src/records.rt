@@ -7,7 +7,7 @@ use journal::{Record, Refusal};
 
 // What reading a record gives: a refusal's number, 0 where there is none, and the record; zeros where it was refused.
 #[repr(C)]
-#[derive(Clone, Copy)]
+#[derive(Clone, Copy, PartialEq, Eq, Debug)]
 pub struct Found {
     pub refusal: u32,
     pub entry: Record,
@@ -15,7 +15,7 @@ pub struct Found {
 
 // What writing a record gives: a refusal's number, 0 where there is none, and the bytes; zeros where it was refused.
 #[repr(C)]
-#[derive(Clone, Copy)]
+#[derive(Clone, Copy, PartialEq, Eq, Debug)]
 pub struct Noted {
     pub refusal: u32,
     pub bytes: [u8; 16],

@@ -8,7 +8,7 @@ use table::Refusal;
 
 // A refusal's number, 0 where the call was done; and how many bytes it put into the buffer that it was lent.
 #[repr(C)]
-#[derive(Clone, Copy)]
+#[derive(Clone, Copy, PartialEq, Eq, Debug)]
 pub struct Reply {
     pub refusal: u32,
     pub count: u32,
@@ -16,7 +16,7 @@ pub struct Reply {
 
 // A frontend's order: a refusal's number, whether it is on, and the stream where it is.
 #[repr(C)]
-#[derive(Clone, Copy)]
+#[derive(Clone, Copy, PartialEq, Eq, Debug)]
 pub struct Ordered {
     pub refusal: u32,
     pub on: u32,
