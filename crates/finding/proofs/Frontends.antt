@@ -7,6 +7,8 @@ use Rattle.scan.specs.Lists.{is_between}
 use Rattle.scan.proofs.Bools.{never, Case, is, isnt, case, Same, same, other, sames}
 use Rattle.scan.proofs.Loops.{turn, end}
 use Rattle.stream.specs.declared.Stream.{Stream}
+use Rattle.std.specs.Prelude.{Option, Some, None, IfSome, is_some, unwrap_or, not}
+use Rattle.table.specs.Table.{unless}
 use Rattle.table.specs.Reach.{has_source, size_of, set_of}
 use Rattle.table.specs.declared.Settings.{Settings}
 use Rattle.table.specs.declared.SatBox.{SatBox}
@@ -84,6 +86,17 @@ module _ {s : Settings} {ms : List Stream} {sets : List ℕ} {k : ℕ} (d : Stre
                   by_past (is y) = absurd (n (omega arith) (leb-true _ _ y))
                   by_past (isnt y) = omega (arith, leb-false (suc j) 8 y)
 
+-- none is 0
+pub is_nought : (o : Option ℕ) (b : Bool) → IfSome o (λ f. 0 < f) → is_some o ≡ not b → b ≡ eqb (unwrap_or o 0) 0
+is_nought None true h e = refl
+is_nought None false h e = never e refl
+is_nought (Some f) true h e = never refl e
+is_nought (Some f) false h e = rw (ne_eqb f 0 (omega arith))
+
+some_of : (o : Option ℕ) {n : ℕ} → IfSome o (λ f. 0 < f) → unwrap_or o 0 ≡ n → o ≡ unless 0 n
+some_of None h e = rw (← e)
+some_of (Some f) h e = rw (← e, ne_eqb f 0 (omega arith))
+
 -- THE SEARCH, from the last frontend down: the best of those above f, and how many sources it reaches
 pub record Choosing (t : SatBox) (source best least f : ℕ) : Type 0 where
   pub high : f ≤ 8
@@ -144,6 +157,6 @@ module _ {t : SatBox} {source best least f : ℕ} (sets : List ℕ) (e : FreeSet
           let v : ((leb f t.settings.frontends && fits) && (eqb best 0 || leb size least)) ≡ false = rw k at n in
           rw (u, w) (record { high = omega (arith, r.high); same = sym (here ∙ rw (sym flag ∙ v)); size = r.size })
 
-pub choosing_end : (t : SatBox) (source : ℕ) {best least f : ℕ} → f ≡ 0 → Choosing t source best least f → best ≡ choice t source
+pub choosing_end : (t : SatBox) (source : ℕ) (best : Option ℕ) {least f : ℕ} → f ≡ 0 → IfSome best (λ f. 0 < f) → Choosing t source (unwrap_or best 0) least f → best ≡ unless 0 (choice t source)
 unfolding choice
-choosing_end t source e r = r.same ∙ rw e
+choosing_end t source best e h r = some_of best h (r.same ∙ rw e)

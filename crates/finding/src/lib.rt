@@ -1,46 +1,46 @@
 // What is free among the places, the stream IDs, the frontends and the session numbers of a table.
 #![tactic(auto)]
 
-ghost use Rattle.std.specs.Prelude.{◌≡◌, ℕ, ◌≤◌, ◌∷◌, length, map, if◌then◌else◌, slice_index};
-ghost use Rattle.scan.specs.Found.{FirstOf};
+ghost use Rattle.std.specs.Prelude.{◌≡◌, ℕ, ◌<◌, ◌≤◌, ◌∷◌, length, if◌then◌else◌, slice_index, IfSome};
+ghost use Rattle.scan.specs.Lists.{first};
 ghost use Rattle.stream.specs.declared.Stream.{Stream};
 ghost use Rattle.table.specs.Reach.{set_of};
-ghost use Rattle.table.specs.Table.{count, has_number, is_free, is_dead, is_open, owns};
-ghost use Rattle.finding.specs.Finding.{lowest_id, is_held, choice, drawn};
+ghost use Rattle.table.specs.Table.{unless, count, has_number, is_dead, is_open, owns};
+ghost use Rattle.finding.specs.Finding.{lowest_place, lowest_id, is_held, choice, drawn};
 
 use stream::Stream;
 use table::{SatBox, Session, Settings};
 
-// The place of the session that has the number; 32 where none has it.
-pub fn place_of(sessions: &[Session; 32], n: u32) -> usize
-    ensures { FirstOf (has_number n) sessions.now result }
+// The place of the session that has the number, below 32.
+pub fn place_of(sessions: &[Session; 32], n: u32) -> Option<usize>
+    ensures first { result ≡ unless 32 (first (has_number n) sessions.now) }
+    ensures within { IfSome result (λ place. place < 32) }
 {
-    let place = sessions.iter().position(|s| s.number == n);
-    place.unwrap_or(SatBox::SESSIONS)
+    sessions.iter().position(|s| s.number == n)
 }
 
-// The lowest free place; 32 where none is free.
-pub fn lowest_place(sessions: &[Session; 32]) -> usize
-    ensures first { FirstOf is_free sessions.now result }
+// The lowest free place, below 32.
+pub fn lowest_place(sessions: &[Session; 32]) -> Option<usize>
+    ensures first { result ≡ unless 32 (lowest_place sessions.now) }
     ensures sized { length sessions.now ≡ 32 }
 {
-    let place = sessions.iter().position(|s| s.number == 0);
-    place.unwrap_or(SatBox::SESSIONS)
+    sessions.iter().position(|s| s.number == 0)
 }
 
-// The place of the first stream that is not live; 8 where all are.
-fn first_dead(streams: &[Stream; 8]) -> usize
-    ensures { FirstOf is_dead streams.now result }
+// The place of the first stream that is not live, below 8.
+fn first_dead(streams: &[Stream; 8]) -> Option<usize>
+    ensures first { result ≡ unless 8 (first is_dead streams.now) }
+    ensures within { IfSome result (λ place. place < 8) }
 {
-    let place = streams.iter().position(|m| m.frontend == 0);
-    place.unwrap_or(SatBox::STREAMS)
+    streams.iter().position(|m| m.frontend == 0)
 }
 
-// The lowest free stream ID; 9 where none is free.
-pub fn lowest_id(streams: &[Stream; 8]) -> u8
-    ensures { result ≡ lowest_id streams.now }
+// The lowest free stream ID, 1 to 8.
+pub fn lowest_id(streams: &[Stream; 8]) -> Option<u8>
+    ensures { result ≡ unless 9 (lowest_id streams.now) }
 {
-    (first_dead(streams) + 1) as u8
+    let place = first_dead(streams)?;
+    Some(place as u8 + 1)
 }
 
 // Whether an open session owns the stream of an ID.
@@ -71,19 +71,21 @@ fn free_sets(streams: &[Stream; 8], settings: Settings) -> [u8; 8]
     sets
 }
 
-// Of the free frontends that reach a source, the one that reaches the fewest, of these the lowest; 0 where there is none.
-pub fn choice(t: &SatBox, source: u32) -> u32
-    ensures { result ≡ choice t.now source }
+// Of the free frontends that reach a source, the one that reaches the fewest, of these the lowest.
+pub fn choice(t: &SatBox, source: u32) -> Option<u8>
+    ensures { result ≡ unless 0 (choice t.now source) }
 {
     let sets = free_sets(&t.streams, t.settings);
-    let last = t.settings.frontends as u32;
-    let mut best = 0;
+    let last = t.settings.frontends;
+    let mut best = None;
     let mut least = 0;
     for f in (1..=8).rev() {
         let set = sets[f as usize - 1];
         let size = table::size_of(set);
-        if ((f <= last) & table::has_source(set, source)) & ((best == 0) | (size <= least)) {
-            best = f;
+        if ((f as u16 <= last) & table::has_source(set, source))
+            & (best.is_none() | (size <= least))
+        {
+            best = Some(f);
             least = size;
         }
     }

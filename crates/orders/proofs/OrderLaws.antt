@@ -2,17 +2,18 @@
 use Rattle.std.specs.Prelude.{Option, Some, None, Result, Ok, Err}
 use mathlib.Core.Path.{◌≡◌, refl, sym, ◌∙◌, ap}
 use mathlib.Core.Bool.{Bool, true, false, cond, ◌||◌, and-false}
-use Prim.Native.Nat.{ℕ, suc, ◌+◌, ◌<◌}
+use Prim.Native.Nat.{ℕ, suc, ◌+◌}
 use native.Mathlib.Omega.{arith}
 use lib.Dec.{eqb, ltb}
 use lib.ListN.{length, get_or}
 use borrow.Author.Tests.{lt-ltb, le-ltb, le-leb, lt-leb, ne_eqb, eqb-false, ltb-true, ltb-false}
 use Rattle.scan.specs.Lists.{is_between, first}
-use Rattle.scan.specs.Found.{FirstOf}
 use Rattle.scan.proofs.Bools.{Same, same, other, sames, or_neither}
 use Rattle.stream.specs.Streams.{past_stream}
 use Rattle.stream.specs.Values.{are_complete}
-use Rattle.table.specs.Table.{any, stream_of}
+use Rattle.scan.proofs.Loops.{first_within}
+use Rattle.table.specs.Table.{unless, any, stream_of}
+use Rattle.table.proofs.Firsts.{unless_some, unless_none}
 use Rattle.table.specs.Formed.{well_formed}
 use Rattle.table.specs.declared.SatBox.{SatBox}
 use Rattle.table.specs.declared.Refusal.{Refusal}
@@ -27,15 +28,16 @@ is_fed n m = eqb m.frontend n
 next : (i : ℕ) → i + 1 ≡ suc i
 next i = omega arith
 
-module _ (t : SatBox) (n : ℕ) {i : ℕ} (f : FirstOf (is_fed n) t.streams i) where
-  pub order_none : length t.streams ≡ i → None ≡ order_for t n
+module _ (t : SatBox) (n : ℕ) {place : Option ℕ} (long : length t.streams ≡ 8) (f : place ≡ unless 8 (first (is_fed n) t.streams)) where
+  pub order_none : place ≡ None → None ≡ order_for t n
   unfolding order_for
-  order_none e = rw (le-ltb (first (is_fed n) t.streams) (length t.streams) (omega (arith, f.is)))
+  order_none e = rw (le-ltb (first (is_fed n) t.streams) (length t.streams) (omega (arith, unless_none f e)))
 
-  pub order_held : {r : Option Stream} → i < length t.streams → r ≡ order_at t (i + 1) → r ≡ order_for t n
+  pub order_held : {r : Option Stream} {i : ℕ} → place ≡ Some i → r ≡ order_at t (i + 1) → r ≡ order_for t n
   unfolding order_for
-  order_held {r} h e =
-      rw (lt-ltb (first (is_fed n) t.streams) (length t.streams) (omega (arith, f.is)), ← f.is) (e ∙ ap (order_at t) (next i))
+  order_held {r} {i} h e =
+      let s = unless_some f h in
+      rw (lt-ltb (first (is_fed n) t.streams) (length t.streams) (omega (arith, first_within (is_fed n) t.streams, s.0, s.1)), ← s.0) (e ∙ ap (order_at t) (next i))
 
 -- the stream of an ID by whether its owner plays and whether its values are there
 module _ (t : SatBox) (i : ℕ) where

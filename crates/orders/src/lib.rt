@@ -1,25 +1,24 @@
 // What a frontend is to be set to: off, or the values and PIDs of the stream that holds it.
 #![tactic(auto)]
 
-ghost use Rattle.std.specs.Prelude.{◌≡◌, cond, eqb, length};
-ghost use Rattle.scan.specs.Lists.{is_between};
-ghost use Rattle.scan.specs.Found.{FirstOf};
+ghost use Rattle.std.specs.Prelude.{◌≡◌, ◌<◌, cond, eqb, length, IfSome};
+ghost use Rattle.scan.specs.Lists.{first, is_between};
 ghost use Rattle.stream.specs.declared.Stream.{Stream};
 ghost use Rattle.table.specs.Formed.{well_formed};
-ghost use Rattle.table.specs.Table.{any};
+ghost use Rattle.table.specs.Table.{unless, any};
 ghost use Rattle.table.specs.declared.Refusal.TheVariants.{Table, Frontend};
 ghost use Rattle.orders.specs.Orders.{plays_as_owner, order_for, order_of};
 
 use stream::Stream;
 use table::{Refusal, SatBox, Session};
 
-// The place of the stream that holds a frontend; 8 where none does.
-fn place_fed(streams: &[Stream; 8], n: u32) -> usize
-    ensures first { FirstOf (λ (m : Stream). eqb m.frontend n) streams.now result }
+// The place of the stream that holds a frontend, below 8.
+fn place_fed(streams: &[Stream; 8], n: u32) -> Option<usize>
+    ensures first { result ≡ unless 8 (first (λ (m : Stream). eqb m.frontend n) streams.now) }
+    ensures within { IfSome result (λ place. place < 8) }
     ensures sized { length streams.now ≡ 8 }
 {
-    let place = streams.iter().position(|m| m.frontend as u32 == n);
-    place.unwrap_or(SatBox::STREAMS)
+    streams.iter().position(|m| m.frontend as u32 == n)
 }
 
 fn plays_as_owner(s: Session, id: u8) -> bool
@@ -39,15 +38,12 @@ fn is_played(sessions: &[Session; 32], id: u8) -> bool
 fn order_for(t: &SatBox, n: u32) -> Option<Stream>
     ensures { result ≡ order_for t.now n }
 {
-    let i = place_fed(&t.streams, n);
-    if i == SatBox::STREAMS {
-        return None;
-    }
-    let m = t.streams[i];
+    let place = place_fed(&t.streams, n)?;
+    let m = t.streams[place];
     if !stream::are_complete(m.values) {
         return None;
     }
-    let id = (i + 1) as u8;
+    let id = place as u8 + 1;
     if !is_played(&t.sessions, id) {
         return None;
     }

@@ -240,10 +240,10 @@ pub table_number : Unique table_contracts.number.ended table.number.Reads.Post
 table_number κs a x y v w = same
 
 pub finding_place_of : Unique finding_contracts.place_of.ended finding.place_of.Reads.Post
-finding_place_of κs a x y v w p q = same p.is q.is
+finding_place_of κs a x y v w p q = same p.0 q.0
 
 pub finding_lowest_place : Unique finding_contracts.lowest_place.ended finding.lowest_place.Reads.Post
-finding_lowest_place κs a x y v w p q = same p.0.is q.0.is
+finding_lowest_place κs a x y v w p q = same p.0 q.0
 
 pub finding_lowest_id : Unique finding_contracts.lowest_id.ended finding.lowest_id.Reads.Post
 finding_lowest_id κs a x y v w = same

@@ -4,19 +4,30 @@ use Rattle.refusals.specs.Refusals.{is_read}
 use Rattle.refusals.specs.declared.Refusal.{Refusal}
 use Rattle.reader.specs.declared.Request.{Request}
 use Rattle.reader.specs.declared.fields.Session.{Session as Sent}
+use Rattle.scan.specs.Lists.{first}
+use Rattle.table.specs.Table.{unless, has_number, session_at}
 use Rattle.table.specs.declared.SatBox.{SatBox}
 use Rattle.steps.specs.Sights.{session_number}
 use Rattle.steps.specs.Handed.{Told}
 use Rattle.steps.specs.Steps.{is_passed}
 use Rattle.steps.specs.Replies.{reply_text}
 use Rattle.steps.specs.declared.cases.Case.{Case}
-use Rattle.serving.specs.Serving.{answered}
+use Rattle.serving.specs.Serving.{refreshed, answered}
+use Rattle.serving.specs.declared.opening.Seat.{Seat}
 use Rattle.serving.specs.Turns.{TurnIs}
 use Rattle.satbox.specs.declared.Response.{Response}
 
 -- the number of the session that a request names, where steps 1 to 10 let it through
 abbrev pub number_by : Option Refusal → Sent → ℕ
 number_by refusal sent = cond (is_read refusal) (session_number sent) 0
+
+-- the place of the session that has it
+abbrev pub place_with : SatBox → ℕ → Option ℕ
+place_with t number = unless 32 (first (has_number number) t.sessions)
+
+-- that session, with the clock as its last time
+abbrev pub seat_kept : SatBox → ℕ → Seat
+seat_kept t place = record { place = place; session = refreshed t.clock (session_at t place) }
 
 -- what passed steps 1 to 15 was read
 abbrev pub Tells : List ℕ → Request → Option Case → Type 0

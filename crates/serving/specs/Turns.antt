@@ -1,5 +1,5 @@
 -- What a request comes to, as what its change needs: what an opening would take, and its turn, beside the meaning's. Assumes nothing.
-use Rattle.std.specs.Prelude.{ℕ, ◌+◌, ◌≤◌, ◌<◌, ◌≡◌, Bool, true, false, not, cond, ◌&&◌, ◌||◌, List, Option, Some, None, Result, Ok, Err, eqb, ltb, length, get_or}
+use Rattle.std.specs.Prelude.{ℕ, ◌+◌, ◌≤◌, ◌<◌, ◌≡◌, Bool, true, false, not, cond, ◌&&◌, ◌||◌, List, Option, Some, None, Result, Ok, Err, eqb, ltb, length, get_or, unwrap_or}
 use Rattle.refusals.specs.Refusals as reading
 use Rattle.aim.specs.Aim.{method_number}
 use Rattle.aim.specs.declared.Method.{Method}
@@ -11,9 +11,9 @@ use Rattle.journal.specs.Records.{record_size}
 use Rattle.stream.specs.Streams.{blank}
 use Rattle.stream.specs.declared.Stream.{Stream}
 use Rattle.stream.specs.declared.Refusal.{Refusal as Unmerged}
-use Rattle.table.specs.Table.{no_session, stream_of, owns, session_with}
+use Rattle.table.specs.Table.{unless, no_session, stream_of, owns, session_with}
 use Rattle.table.specs.Formed.{well_formed}
-use Rattle.finding.specs.Finding.{lowest_place, lowest_id}
+use Rattle.finding.specs.Finding.{lowest_place, lowest_id, can_feed}
 use Rattle.table.specs.declared.SatBox.{SatBox}
 use Rattle.table.specs.declared.Session.{Session}
 use Rattle.steps.specs.Handed.{asked_by, Told}
@@ -27,7 +27,7 @@ use Rattle.closings.specs.Does.{Closable}
 use Rattle.closings.specs.Stamps.{codes_of}
 use Rattle.closings.specs.declared.change.Kind.{Kind}
 use Rattle.closings.specs.declared.change.Kind.TheVariants as kind
-use Rattle.serving.specs.Serving.{has_place, has_room, guest, can_open, Serving, source_of, feed_of, merging, merges, refusal_case, merge_case, is_unreached, is_opening, can_seat, with_session, seat_after}
+use Rattle.serving.specs.Serving.{has_place, has_room, guest, Serving, source_of, feed_of, merging, merges, refusal_case, merge_case, is_unreached, is_opening, can_seat, with_session, seat_after}
 use Rattle.serving.specs.declared.opening.Client.{Client}
 use Rattle.serving.specs.declared.opening.Seat.{Seat}
 use Rattle.serving.specs.declared.opening.Offer.{Offer}
@@ -70,24 +70,33 @@ guest_of client number clock id owner =
 abbrev pub seat_if : Bool → ℕ → Session → Option Seat
 seat_if b place s = cond b (Some (record { place = place; session = s })) None
 
-abbrev pub new_offer : SatBox → ℕ → ℕ → Client → Offer
-new_offer t source feed client =
-    record { feed = feed; seat = seat_if (can_open source feed t) (lowest_place t.sessions) (guest 1 (lowest_id t.streams) client t) }
+-- at the lowest free place, where there is room
+abbrev pub seat_on : ℕ → ℕ → Client → SatBox → Option Seat
+seat_on id owner client t = seat_if (has_place t && has_room t) (lowest_place t.sessions) (guest owner id client t)
 
-abbrev pub live_offer : SatBox → ℕ → ℕ → Client → Offer
-live_offer t id feed client =
-    record {
-      feed = feed;
-      seat = seat_if (has_place t && (not (eqb feed 0) && has_room t)) (lowest_place t.sessions) (guest 0 id client t);
-    }
+-- some ID is free
+abbrev pub has_id : SatBox → Bool
+has_id t = not (eqb (lowest_id t.streams) 9)
 
--- an ID and a frontend have eight bits; a larger number is none of either
+-- who opens a new stream, with a frontend that can feed it; and who joins a live one, whose ID has eight bits
+abbrev pub owner_seat : ℕ → ℕ → Client → SatBox → Option Seat
+owner_seat source feed client t = cond (can_feed t source feed && has_id t) (seat_on (lowest_id t.streams) 1 client t) None
+
+abbrev pub joiner_seat : ℕ → ℕ → Client → SatBox → Option Seat
+joiner_seat id frontend client t = cond (not (eqb frontend 0) && ltb id 256) (seat_on id 0 client t) None
+
+-- a frontend has eight bits; a larger number is none
 abbrev pub is_small : ℕ → ℕ
 is_small n = cond (ltb n 256) n 0
 
+abbrev pub new_offer : ℕ → ℕ → Client → SatBox → Offer
+new_offer source feed client t = record { feed = unless 0 feed; seat = owner_seat source feed client t }
+
 abbrev pub offer_of : SatBox → Sight → Client → Offer
 offer_of t v client =
-    cond (eqb v.stream 0) (new_offer t (source_of v) (is_small (feed_of t v)) client) (live_offer t (is_small v.stream) v.frontend client)
+    cond (eqb v.stream 0)
+    (new_offer (source_of v) (is_small (feed_of t v)) client t)
+    (record { feed = None; seat = joiner_seat v.stream v.frontend client t })
 
 -- TURNS: why a request is refused, and the session that its answer is about
 abbrev pub reason_of : Turn → Option Case
@@ -253,7 +262,7 @@ abbrev pub merges_now : Option Case → Sight → Bool
 merges_now case v = is_passed case && merges v
 
 abbrev pub unmerged_by : Sight → Stream → Offer → Stream
-unmerged_by v m o = cond (eqb v.stream 0) (blank o.feed) m
+unmerged_by v m o = cond (eqb v.stream 0) (blank (unwrap_or o.feed 0)) m
 
 -- a request as it was read, and what was looked up for it
 pub record Looks (t : SatBox) (s : List ℕ) (r : Request) (v : Sight) (m : Stream) (case : Option Case) : Type 0 where

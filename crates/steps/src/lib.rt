@@ -7,6 +7,7 @@ mod replies;
 mod tests;
 
 ghost use Rattle.std.specs.Prelude.{◌≡◌};
+ghost use Rattle.table.specs.Table.{unless};
 ghost use Rattle.steps.specs.Handed.{asked_by, sighted};
 ghost use Rattle.steps.specs.Sights.{is_absent, session_number};
 ghost use Rattle.steps.specs.Steps.{table_case};
@@ -42,13 +43,13 @@ fn is_absent(sent: reader::Session) -> bool
     matches!(sent, reader::Session::Absent)
 }
 
-// The number that a Session header names; 0 where it names none, and no open session has it.
-pub fn number_of(sent: reader::Session) -> u32
-    ensures { result ≡ session_number sent }
+// The number that a Session header names, if any; no open session has 0.
+pub fn number_of(sent: reader::Session) -> Option<u32>
+    ensures { result ≡ unless 0 (session_number sent) }
 {
     match sent {
-        reader::Session::Absent | reader::Session::Malformed => 0,
-        reader::Session::Named(n) => n,
+        reader::Session::Absent | reader::Session::Malformed | reader::Session::Named(0) => None,
+        reader::Session::Named(n) => Some(n),
     }
 }
 

@@ -1,5 +1,5 @@
 -- Counting in a list; and what stands in a table: open sessions, live streams, and who is on which. Assumes nothing.
-use Rattle.std.specs.Prelude.{ℕ, ◌+◌, zero, suc, Bool, true, false, not, cond, ◌&&◌, ◌||◌, List, [], ◌∷◌, eqb, get_or, set}
+use Rattle.std.specs.Prelude.{ℕ, ◌+◌, zero, suc, Bool, true, false, not, cond, ◌&&◌, ◌||◌, List, [], ◌∷◌, eqb, get_or, set, Option, Some, None}
 use Rattle.stream.specs.Streams.{past_stream}
 use Rattle.stream.specs.declared.Stream.{Stream}
 use Rattle.table.specs.declared.Session.{Session}
@@ -15,6 +15,10 @@ module _ {A : Type 0} (p : A → Bool) where
   abbrev pub any : List A → Bool
   any [] = false
   any (x ∷ xs) = p x || any xs
+
+-- a number, unless it is the one that stands for none
+abbrev pub unless : ℕ → ℕ → Option ℕ
+unless none n = cond (eqb n none) None (Some n)
 
 -- a number is one of some
 abbrev pub is_among : ℕ → List ℕ → Bool

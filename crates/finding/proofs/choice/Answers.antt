@@ -1,5 +1,6 @@
-use Rattle.std.proofs.Common.{refl, arith}
-use Rattle.finding.proofs.Frontends.{choosing_take, choosing_leave, choosing_end}
+use Rattle.std.proofs.Common.{ap, refl, arith}
+use Rattle.std.specs.Prelude.{unwrap_or}
+use Rattle.finding.proofs.Frontends.{is_nought, choosing_take, choosing_leave, choosing_end}
 use Rattle.finding.proofs.choice.Goals as goal
 use Rattle.finding.proofs.choice.Goals.{then-f-last, else-f-last}
 
@@ -8,14 +9,21 @@ loop-f-preserved c = let l = c.loop-f.invariant in
     let sets = c.free_sets-sets.result in
     let size = c.size_of-size.ensures in
     let fits = c.has_source.ensures in
-    let low = c.loop-f-test.true in (
+    let low = c.loop-f-test.true in
+    let none = is_nought c.loop-f.best c.is_none.result l.1 c.is_none.ensures in (
       omega (arith, l.0),
+      elim c.if-f-last.branch [
+        | then-f-last w ↦ rw w.best-is low
+        | else-f-last w ↦ rw w.best-is l.1
+      ],
       λ t e q.
           elim c.if-f-last.branch [
-            | then-f-last w ↦ choosing_take sets e (l.1 t e q) low fits size q w.if-f-last.true w.best-is w.least-is
-            | else-f-last w ↦ choosing_leave sets e (l.1 t e q) low fits size q w.if-f-last.false w.best-is w.least-is
+            | then-f-last w ↦
+                choosing_take sets e (l.2 t e q) low fits size q (rw none at w.if-f-last.true) (ap (λ o. unwrap_or o 0) w.best-is) w.least-is
+            | else-f-last w ↦
+                choosing_leave sets e (l.2 t e q) low fits size q (rw none at w.if-f-last.false) (ap (λ o. unwrap_or o 0) w.best-is) w.least-is
           ],
     )
 
 pub returns : goal.returns
-returns c = choosing_end _ _ (omega (arith, c.loop-f-test.false)) (c.loop-f.invariant.1 _ c.free_sets-sets.ensures refl)
+returns c = let l = c.loop-f.invariant in choosing_end _ _ c.loop-f.best (omega (arith, c.loop-f-test.false)) l.1 (l.2 _ c.free_sets-sets.ensures refl)

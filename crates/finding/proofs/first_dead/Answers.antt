@@ -1,15 +1,16 @@
-use Rattle.std.proofs.Common.{rules, length, ◌≡◌, ◌∙◌, ap}
-use Rattle.std.specs.Prelude.{unwrap_or}
+use Rattle.std.proofs.Common.{rules, ◌≡◌}
 use Rattle.std.specs.List.{position}
 use Rattle.std.proofs.lemmas.Iterator.{YieldsList-from_slice}
 use Rattle.std.proofs.lemmas.Iterator.Search.{position_from_yields_List}
 use Rattle.table.specs.Table.{is_dead}
-use Rattle.table.proofs.Firsts.{first_of}
+use Rattle.table.proofs.Firsts.{position_is, position_within}
 use Rattle.finding.proofs.first_dead.Goals as goal
 
 pub returns : goal.returns
 returns c =
-    let e : c.position-place.result ≡ position is_dead c.args.streams.now =
-    position_from_yields_List is_dead _ _ c.position-place.result c.position-place.ensures.ran (YieldsList-from_slice _ c.iter.ensures.rest) (λ x b q k. search rules)
+    let test = is_dead in
+    let l = c.args.streams.now in
+    let e : c.position.result ≡ position test l =
+    position_from_yields_List test _ _ c.position.result c.position.ensures.ran (YieldsList-from_slice _ c.iter.ensures.rest) (λ x b q k. search rules)
     in
-    first_of is_dead c.args.streams.now 8 c.told-streams (c.unwrap_or.ensures ∙ ap (λ o. unwrap_or o 8) e)
+    record { first = position_is test l 8 c.told-streams e; within = position_within test l 8 c.told-streams e }

@@ -1,15 +1,16 @@
-use Rattle.std.proofs.Common.{rules, length, ◌≡◌, ◌∙◌, ap}
-use Rattle.std.specs.Prelude.{unwrap_or}
+use Rattle.std.proofs.Common.{rules, ◌≡◌}
 use Rattle.std.specs.List.{position}
 use Rattle.std.proofs.lemmas.Iterator.{YieldsList-from_slice}
 use Rattle.std.proofs.lemmas.Iterator.Search.{position_from_yields_List}
 use Rattle.table.specs.Table.{has_number}
-use Rattle.table.proofs.Firsts.{first_of}
+use Rattle.table.proofs.Firsts.{position_is, position_within}
 use Rattle.finding.proofs.place_of.Goals as goal
 
 pub returns : goal.returns
 returns c =
-    let e : c.position-place.result ≡ position (has_number c.args.n) c.args.sessions.now =
-    position_from_yields_List (has_number c.args.n) _ _ c.position-place.result c.position-place.ensures.ran (YieldsList-from_slice _ c.iter.ensures.rest) (λ x b q k. search rules)
+    let test = has_number c.args.n in
+    let l = c.args.sessions.now in
+    let e : c.position.result ≡ position test l =
+    position_from_yields_List test _ _ c.position.result c.position.ensures.ran (YieldsList-from_slice _ c.iter.ensures.rest) (λ x b q k. search rules)
     in
-    first_of (has_number c.args.n) c.args.sessions.now 32 c.told-sessions (c.unwrap_or.ensures ∙ ap (λ o. unwrap_or o 32) e)
+    record { first = position_is test l 32 c.told-sessions e; within = position_within test l 32 c.told-sessions e }
