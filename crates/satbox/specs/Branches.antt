@@ -17,6 +17,11 @@ use Rattle.serving.specs.declared.opening.Seat.{Seat}
 use Rattle.serving.specs.Turns.{TurnIs}
 use Rattle.satbox.specs.declared.Response.{Response}
 
+-- how long a box's arrays are, which its type says, and which no clause knows of one behind a reference
+pub record IsBox (t : SatBox) : Type 0 where
+  pub places : length t.sessions ≡ 32
+  pub rows : length t.streams ≡ 8
+
 -- the number of the session that a request names, where steps 1 to 10 let it through
 abbrev pub number_by : Option Refusal → Sent → ℕ
 number_by refusal sent = cond (is_read refusal) (session_number sent) 0

@@ -15,7 +15,7 @@ use stream::{Refusal, Stream};
 use table::{SatBox, Session};
 
 // What a request comes to, with each session as it then stands at its place.
-#[derive(Clone, Copy)]
+#[derive(Clone, Copy, PartialEq, Eq, Debug)]
 pub enum Turn {
     // It is refused; the session that it names, if any, is kept.
     Refused { case: Case, kept: Option<Seat> },
