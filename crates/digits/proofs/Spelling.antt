@@ -1,22 +1,34 @@
 -- Numbers read digit by digit, for any base, count of digits and limit: every reading cites these laws. Assumes nothing.
 use mathlib.Core.Path.{◌≡◌, refl, sym, ◌∙◌}
-use mathlib.Core.Bool.{true, cond, ◌&&◌, and-false}
+use mathlib.Core.Bool.{true, false, cond, ◌&&◌, and-false}
 use mathlib.Core.List.{List, [], ◌∷◌, map}
 use Prim.Native.Nat.{ℕ, zero, suc, ◌+◌, ◌*◌, ◌^◌, ◌≤◌, ◌<◌}
 use native.Mathlib.Nat.{le_refl, le_trans, mul-le-mul, mul-le-mul_left}
 use native.Mathlib.Omega.{arith}
 use lib.Dec.{leb, ltb}
 use lib.ListN.{length, get_or, drop, length-map}
-use borrow.Author.Tests.{le-leb, lt-leb, ltb-true, lt-ltb, le-ltb, ne_eqb}
+use borrow.Author.Tests.{le-leb, lt-leb, ltb-true, ne_eqb}
 use Rattle.scan.proofs.Bools.{and_both, by_test}
 use Rattle.scan.proofs.Loops.{turn, end}
 use Rattle.digits.proofs.Positions.{value_from, Below, value_below}
-use Rattle.digits.specs.Reading.{digit_of, are_digits, spelled, read_in, read_hex8}
+use Rattle.digits.specs.Reading.{digit_of, digit_in, are_digits, spelled, read_in, read_hex8}
 use Rattle.std.specs.Prelude.{Option, Some, None}
 
 -- a number of 32 bits and two digits of a byte fit 64 bits
 pub with_digit_fits : (v base d : ℕ) → v < 4294967296 → base < 256 → d < 256 → v * base + d < 18446744073709551616
 with_digit_fits v base d h k l = omega (arith, mul-le-mul {n₁ = v} {m₁ = base} {n₂ = 4294967295} {m₂ = 255} (omega arith) (omega arith))
+
+-- a byte that is a digit of the base, and one that is none
+pub digit_some : (base b : ℕ) {d : ℕ} → Some d ≡ digit_in base b → (d ≡ digit_of b) × (ltb (digit_of b) base ≡ true)
+digit_some base b {d} =
+    by_test (λ t. ltb (digit_of b) base ≡ t → Some d ≡ cond t (Some (digit_of b)) None → (d ≡ digit_of b) × (ltb (digit_of b) base ≡ true)) (ltb (digit_of b) base) (λ _ y e. (cc, y)) (λ _ n e. cc) refl
+
+digit_below : (base b : ℕ) {d : ℕ} → Some d ≡ digit_in base b → 0 < base
+digit_below base b e = omega (arith, ltb-true (digit_of b) base (digit_some base b e).1)
+
+pub digit_none : (base b : ℕ) → None ≡ digit_in base b → ltb (digit_of b) base ≡ false
+digit_none base b =
+    by_test (λ t. None ≡ cond t (Some (digit_of b)) None → t ≡ false) (ltb (digit_of b) base) (λ _ e. cc) (λ _ e. refl)
 
 -- what is read of the rest after v
 abbrev rest : ℕ → ℕ → ℕ → List ℕ → Option ℕ
@@ -84,16 +96,18 @@ module _ (base most limit : ℕ) where
   pub spelling_end : {s : List ℕ} {i v : ℕ} → Spelling s i v → length s ≤ i → Some v ≡ read_in base most limit s
   spelling_end {s} {i} {v} r h = sym (end (rest base limit v) s i h ∙ rw (le-leb v limit r.small)) ∙ r.same
 
-  module _ {s : List ℕ} {i v d : ℕ} (r : Spelling s i v) (h : i < length s) (e : d ≡ digit_of (get_or s i 0)) where
-    pub spelling_not : base ≤ d → None ≡ read_in base most limit s
-    spelling_not k = sym (turn (rest base limit v) s i 0 h ∙ rw (← e, le-ltb d base k)) ∙ r.same
+  module _ {s : List ℕ} {i v : ℕ} (r : Spelling s i v) (h : i < length s) where
+    pub spelling_not : None ≡ digit_in base (get_or s i 0) → None ≡ read_in base most limit s
+    spelling_not e = sym (turn (rest base limit v) s i 0 h ∙ rw (digit_none base (get_or s i 0) e)) ∙ r.same
 
-    module _ {w : ℕ} (k : d < base) (q : w ≡ v * base + d) where
+    module _ {d w : ℕ} (e : Some d ≡ digit_in base (get_or s i 0)) (q : w ≡ v * base + d) where
       step : rest base limit v (drop i s) ≡ rest base limit w (drop (i + 1) s)
-      step = turn (rest base limit v) s i 0 h ∙ rw (← e, lt-ltb d base k, q)
+      step = let p = digit_some base (get_or s i 0) e in turn (rest base limit v) s i 0 h ∙ rw (p.1, ← p.0, q)
 
       pub spelling_over : limit < w → None ≡ read_in base most limit s
-      spelling_over l = sym (step ∙ rest_over base limit w (drop (i + 1) s) (omega arith) l) ∙ r.same
+      spelling_over l =
+          let b : 0 < base = digit_below base (get_or s i 0) e in
+          sym (step ∙ rest_over base limit w (drop (i + 1) s) b l) ∙ r.same
 
       pub spelling_more : w ≤ limit → Spelling s (i + 1) w
       spelling_more l = record { inside = omega arith; small = l; same = sym step ∙ r.same }

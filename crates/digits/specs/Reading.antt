@@ -18,6 +18,10 @@ value_in base ds = foldl (λ v d. v * base + d) 0 ds
 abbrev pub digit_of : ℕ → ℕ
 digit_of b = cond (is_digit b) (b - 48) (cond (is_between 65 70 b) (b - 55) (cond (is_between 97 102 b) (b - 87) 255))
 
+-- the digit of a base that a byte is
+abbrev pub digit_in : ℕ → ℕ → Option ℕ
+digit_in base b = cond (ltb (digit_of b) base) (Some (digit_of b)) None
+
 -- every byte is a digit of the base; the number that they say
 abbrev pub are_digits : ℕ → List ℕ → Bool
 are_digits base xs = all (λ b. ltb (digit_of b) base) xs

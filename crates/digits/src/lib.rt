@@ -1,9 +1,10 @@
 // Numbers out of text: decimal and hexadecimal, read within limits, and where their digits stand. Every function has an answer for all
-// bytes and numbers, looks at each byte at most once and stops at the first that settles the answer.
+// bytes and numbers, looks at each byte at most once (where zeros are refused, at the first once more) and stops at the first that settles
+// the answer.
 #![tactic(auto)]
 
-ghost use Rattle.std.specs.Prelude.{◌≡◌, ◌+◌, ◌*◌, ◌<◌};
-ghost use Rattle.digits.specs.Reading.{digit_of, read_in, has_leading_zero, read_number, at_least, read_hex8};
+ghost use Rattle.std.specs.Prelude.{◌≡◌, ◌+◌, ◌*◌};
+ghost use Rattle.digits.specs.Reading.{digit_in, read_in, has_leading_zero, read_number, at_least, read_hex8};
 ghost use Rattle.digits.specs.Standing.{Stands};
 
 use scan::Span;
@@ -15,20 +16,20 @@ pub enum Zeros {
     Refused,
 }
 
-// What a byte counts as a digit of a base up to 16; 255 where it is none. A `match` over ranges takes four instructions more for each byte.
-fn digit_of(b: u8) -> u8
-    ensures { result ≡ digit_of b }
+// What a byte counts as a digit of a base up to 16. A `match` over ranges takes four instructions more for each byte.
+fn digit_in(base: u8, b: u8) -> Option<u8>
+    ensures { result ≡ digit_in base b }
 {
-    if (b'0' <= b) & (b <= b'9') {
-        return b - b'0';
-    }
-    if (b'A' <= b) & (b <= b'F') {
-        return b - (b'A' - 10);
-    }
-    if (b'a' <= b) & (b <= b'f') {
-        return b - (b'a' - 10);
-    }
-    255
+    let d = if (b'0' <= b) & (b <= b'9') {
+        b - b'0'
+    } else if (b'A' <= b) & (b <= b'F') {
+        b - (b'A' - 10)
+    } else if (b'a' <= b) & (b <= b'f') {
+        b - (b'a' - 10)
+    } else {
+        return None;
+    };
+    (d < base).then_some(d)
 }
 
 // The number v with one digit more.
@@ -42,19 +43,12 @@ fn with_digit(v: u32, base: u8, d: u8) -> u64
 fn number_in(base: u8, s: &[u8], most: usize, limit: u32) -> Option<u32>
     ensures { result ≡ read_in base most limit s.now }
 {
-    if s.is_empty() {
-        return None;
-    }
-    if most < s.len() {
+    if s.is_empty() || most < s.len() {
         return None;
     }
     let mut v: u32 = 0;
     for b in s {
-        let d = digit_of(*b);
-        if base <= d {
-            return None;
-        }
-        let next = with_digit(v, base, d);
+        let next = with_digit(v, base, digit_in(base, *b)?);
         if (limit as u64) < next {
             return None;
         }

@@ -11,7 +11,7 @@ ghost use Rattle.lines.specs.Laid.{is_named, name_length, name_number, KnownIs, 
 use scan::{Case, Class, Span};
 
 // The names of the known headers.
-#[derive(Clone, Copy)]
+#[derive(Clone, Copy, PartialEq, Eq, Debug)]
 pub enum Name {
     CSeq,
     Session,
@@ -43,7 +43,7 @@ impl Name {
 }
 
 // What was seen of the headers of one name, and where the first one's value stands.
-#[derive(Clone, Copy)]
+#[derive(Clone, Copy, PartialEq, Eq, Debug)]
 pub enum Seen {
     Never,
     Once(Span),
@@ -74,14 +74,14 @@ impl Seen {
 }
 
 // A header line: of a known name, with the place of its value, or of any other.
-#[derive(Clone, Copy)]
+#[derive(Clone, Copy, PartialEq, Eq, Debug)]
 pub enum Header {
     Known { name: Name, value: Span },
     Other,
 }
 
 // A request's lines: what was seen of the known headers, each at its name's place, and where the request line ends.
-#[derive(Clone, Copy)]
+#[derive(Clone, Copy, PartialEq, Eq, Debug)]
 pub struct Lines {
     pub headers: [Seen; 5],
     pub line: usize,
@@ -170,6 +170,7 @@ fn headers_after(s: &[u8], line: usize) -> Option<Lines>
 {
     let mut headers = [Seen::Never; 5];
     let mut from = line + 2;
+    // No `for`: an iterator over the lines would have to say of each whether CR LF ended it and where it stands, which is no plainer.
     loop {
         let end = from + line_in(&s[from..])?;
         if end == from {

@@ -1,19 +1,18 @@
 -- Two texts compared place by place, and what it says that they are alike. Assumes nothing.
 use mathlib.Core.Path.{◌≡◌, refl, ap, ap₂, ◌∙◌, sym}
-use mathlib.Core.Bool.{Bool, true, false, not, cond, ◌&&◌, ◌||◌, and-true, and-false}
+use mathlib.Core.Bool.{Bool, true, false, not, cond, ◌&&◌, ◌||◌, and-false}
 use mathlib.Core.List.{List, [], ◌∷◌, map}
 use Prim.Native.Nat.{ℕ, suc, ◌+◌, ◌-◌, ◌≤◌, ◌<◌}
 use native.Mathlib.Decide.{ℕ_discrete}
 use native.Mathlib.Omega.{arith}
 use lib.Dec.{eqb, leb}
-use lib.ListN.{length, get_or, drop}
+use lib.ListN.{length}
 use borrow.Author.Tests.{eq-eqb, ne_eqb, eqb-true, leb-true, le-leb}
 use Rattle.scan.specs.Lists.{is_between, is_capital}
 use Rattle.scan.specs.Text.{alike_by, seen}
 use Rattle.scan.specs.Found.{is_small, other_case}
 use Rattle.scan.specs.declared.Case.TheVariants.{Ignored}
-use Rattle.scan.proofs.Bools.{never, and_and, and_both, both, by_cases, Case, is, isnt, case}
-use Rattle.scan.proofs.Loops.{turn, end}
+use Rattle.scan.proofs.Bools.{never, and_both, both, by_cases, Case, is, isnt, case}
 
 between : (low high b : ℕ) → is_between low high b ≡ true → (low ≤ b) × (b ≤ high)
 between low high b e =
@@ -84,27 +83,6 @@ module _ (f : ℕ → ℕ) where
   alike_long [] (y ∷ t) n = refl
   alike_long (x ∷ s) [] n = refl
   alike_long (x ∷ s) (y ∷ t) n = rw (← alike_long s t (λ e. n (ap suc e)), and-false)
-
-  -- the texts are as long as each other, and a says whether they are alike before place i
-  pub record Matching (s t : List ℕ) (a : Bool) (i : ℕ) : Type 0 where
-    pub long : length s ≡ length t
-    pub inside : i ≤ length s
-    pub same : a && alike_by f (drop i s) (drop i t) ≡ alike_by f s t
-
-  pub matching_start : (s t : List ℕ) → length s ≡ length t → Matching s t true 0
-  matching_start s t e = record { long = e; inside = omega arith; same = refl }
-
-  pub matching_end : {s t : List ℕ} {a : Bool} {i : ℕ} → Matching s t a i → length s ≤ i → a ≡ alike_by f s t
-  matching_end {s} {t} {a} {i} m h =
-      sym (ap (λ b. a && b) (end (λ xs. alike_by f xs (drop i t)) s i h ∙ end (λ ys. alike_by f [] ys) t i (rw m.long at h)) ∙ and-true a) ∙ m.same
-
-  pub matching_more : {s t : List ℕ} {a : Bool} {i : ℕ} {r : Bool} → Matching s t a i → i < length s → r ≡ eqb (f (get_or s i 0)) (f (get_or t i 0))
-      → Matching s t (a && r) (i + 1)
-  matching_more {s} {t} {a} {i} {r} m h e =
-      let step : alike_by f (drop i s) (drop i t) ≡ (r && alike_by f (drop (i + 1) s) (drop (i + 1) t)) =
-      turn (λ xs. alike_by f xs (drop i t)) s i 0 h ∙ turn (λ ys. alike_by f (get_or s i 0 ∷ drop (i + 1) s) ys) t i 0 (rw m.long at h) ∙ rw (← e)
-      in
-      record { long = m.long; inside = omega arith; same = sym (and_and a r _) ∙ sym (ap (λ b. a && b) step) ∙ m.same }
 
   -- every text is alike itself
   pub alike_self : (s : List ℕ) → alike_by f s s ≡ true

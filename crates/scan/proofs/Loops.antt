@@ -2,7 +2,7 @@
 -- law for its start, for a turn and for each way out; a turn's test is told as the equation that the test's contract gives.
 -- Assumes nothing.
 use mathlib.Core.Path.{◌≡◌, refl, ap, ap₂, ◌∙◌, sym}
-use mathlib.Core.Bool.{Bool, true, false, cond, not, ◌&&◌, and-true}
+use mathlib.Core.Bool.{Bool, true, false, cond, not}
 use mathlib.Core.List.{List, [], ◌∷◌}
 use Prim.Native.Nat.{ℕ, zero, suc, ◌+◌, ◌-◌, ◌≤◌, ◌<◌}
 use native.Mathlib.Numerals.{add-one}
@@ -12,7 +12,7 @@ use lib.Seq.{drop-cons, drop-drop}
 use borrow.Author.Tests.{not-false}
 use Rattle.scan.specs.Lists.{all, first, part}
 use Rattle.scan.specs.Found.{FirstOf, FirstFrom}
-use Rattle.scan.proofs.Bools.{and_and, and_both, by_test}
+use Rattle.scan.proofs.Bools.{and_both, by_test}
 use Rattle.scan.proofs.Parts.{part_rest}
 
 -- what any function says of the rest at i: it goes by the element at i and the rest at i + 1, and there is nothing at the end
@@ -70,21 +70,6 @@ module _ {A : Type 0} (p : A → Bool) where
 
     pub passing_not : t ≡ false → false ≡ all p l
     passing_not n = sym (turn (all p) l i d h ∙ rw (sym e ∙ n)) ∙ s.same
-
-  -- t says whether every element before place i passes
-  pub record Telling (l : List A) (t : Bool) (i : ℕ) : Type 0 where
-    pub inside : i ≤ length l
-    pub same : t && all p (drop i l) ≡ all p l
-
-  pub telling_start : (l : List A) → Telling l true 0
-  telling_start l = record { inside = omega arith; same = refl }
-
-  pub telling_more : {l : List A} {i : ℕ} {t u : Bool} (d : A) → Telling l t i → i < length l → u ≡ p (get_or l i d) → Telling l (t && u) (i + 1)
-  telling_more {l} {i} {t} {u} d s h e =
-      record { inside = omega arith; same = rw e (sym (and_and t (p (get_or l i d)) _)) ∙ sym (ap (λ b. t && b) (turn (all p) l i d h)) ∙ s.same }
-
-  pub telling_end : {l : List A} {i : ℕ} {t : Bool} → Telling l t i → length l ≤ i → t ≡ all p l
-  telling_end {l} {i} {t} s h = sym (and-true t) ∙ sym (ap (λ b. t && b) (end (all p) l i h)) ∙ s.same
 
 -- a block of which every element passes a test that nothing sought passes holds nothing sought: that is past it
 module _ {A : Type 0} (p q : A → Bool) (other : (x : A) → q x ≡ true → p x ≡ false) where

@@ -1,12 +1,12 @@
 -- Parts of a list: their length, a part of a part, and what a span of a part holds in the whole. Assumes nothing.
 use mathlib.Core.Path.{◌≡◌, refl, ap, ◌∙◌, sym}
 use mathlib.Core.Bool.{true, false, cond, not, ◌&&◌, and-false}
-use mathlib.Core.List.{List, [], ◌∷◌, ◌++◌}
+use mathlib.Core.List.{List, [], ◌∷◌}
 use Prim.Native.Nat.{ℕ, zero, suc, ◌+◌, ◌-◌, ◌≤◌, ◌<◌}
 use native.Mathlib.Nat.{suc-sub-suc, sub-zero, zero-sub}
 use native.Mathlib.Omega.{arith}
 use lib.ListN.{length, get_or, take, drop, replicate, length-take, length-drop}
-use lib.Seq.{take-take, drop-drop, take-nil, take_all, take-suc, get_or-drop}
+use lib.Seq.{take-take, drop-drop, take-nil, take_all}
 use Rattle.scan.specs.Lists.{part, all, first, is_name, are_name_bytes}
 use Rattle.scan.specs.Found.{Holds, text_at, nowhere, FirstOf, in_class}
 use Rattle.scan.specs.declared.Span.{Span}
@@ -43,14 +43,6 @@ module _ {A : Type 0} where
   part_rest a e s h =
       let d : length (drop a s) ≡ length s - a = length-drop a s in
       take_all (e - a) (drop a s) (omega arith)
-
-  -- one element more at its end
-  pub part_more : (a e : ℕ) (s : List A) (d : A) → a ≤ e → e < length s → part a (e + 1) s ≡ part a e s ++ (get_or s e d ∷ [])
-  part_more a e s d h k =
-      let n : e + 1 - a ≡ suc (e - a) = omega arith in
-      let r : length (drop a s) ≡ length s - a = length-drop a s in
-      let m : a + (e - a) ≡ e = omega arith in
-      rw n (take-suc (drop a s) (e - a) d (omega arith) ∙ ap (λ x. take (e - a) (drop a s) ++ (x ∷ [])) (get_or-drop a s (e - a) d ∙ ap (λ j. get_or s j d) m))
 
   pub part_part : (i j a e : ℕ) (s : List A) → j ≤ e - a → part i j (part a e s) ≡ part (a + i) (a + j) s
   part_part i j a e s h =

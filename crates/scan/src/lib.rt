@@ -5,10 +5,11 @@
 ghost use Rattle.std.specs.Prelude.{◌≡◌, eqb};
 ghost use Rattle.scan.specs.Lists.{all, is_name, is_text};
 ghost use Rattle.scan.specs.Found.{FirstOf, FirstFrom, Trimmed, in_class, other_case};
-ghost use Rattle.scan.specs.Text.{seen, are_alike};
+ghost use Rattle.scan.specs.Text.{seen, are_alike, trim_end};
 
-// A class of bytes, handed to a scan.
-#[derive(Clone, Copy)]
+// A class of bytes, handed to a scan. It is no closure: the scans are public, promise their answer for every class and ask nothing of their
+// caller, and a function that takes a closure has to ask that it can be called.
+#[derive(Clone, Copy, PartialEq, Eq, Debug)]
 pub enum Class {
     // One byte.
     Is(u8),
@@ -134,7 +135,7 @@ pub fn first_from(s: &[u8], from: usize, c: Class) -> usize
 }
 
 // Whether the case of ASCII letters tells two texts apart.
-#[derive(Clone, Copy)]
+#[derive(Clone, Copy, PartialEq, Eq, Debug)]
 pub enum Case {
     Counts,
     Ignored,
@@ -175,11 +176,24 @@ pub fn are_alike(s: &[u8], t: &[u8], case: Case) -> bool
         .fold(true, |alike, (x, y)| alike & is_pair_alike(case, *x, *y))
 }
 
-// A part of a slice, from start up to, not including, end.
+// A part of a slice, from start up to, not including, end. A span and no slice is handed on: where a text stands is promised too, so that each
+// function has one answer (promises/proofs/Unique), and no contract can say where a slice lies.
 #[derive(Clone, Copy, PartialEq, Eq, Debug)]
 pub struct Span {
     pub start: usize,
     pub end: usize,
+}
+
+// The text without the spaces at its end.
+#[tactic(auto, using(crate::proofs::Trims::space_off, crate::proofs::Trims::none_off))]
+fn trimmed_behind(s: &[u8]) -> &[u8]
+    ensures { result.now ≡ trim_end s.now }
+{
+    let mut text = s;
+    while let [front @ .., b' '] = text {
+        text = front;
+    }
+    text
 }
 
 // Where the text stands without the spaces at its start and its end.
@@ -187,9 +201,9 @@ pub fn trimmed(s: &[u8]) -> Span
     ensures { Trimmed s.now result }
 {
     let start = first_in(s, Class::Not(b' '));
-    let mut end = s.len();
-    while start < end && s[end - 1] == b' ' {
-        end -= 1;
+    let text = trimmed_behind(&s[start..]);
+    Span {
+        start,
+        end: start + text.len(),
     }
-    Span { start, end }
 }

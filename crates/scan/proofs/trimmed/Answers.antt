@@ -1,9 +1,6 @@
-use borrow.Author.Rules.{rules}
-use Rattle.scan.proofs.Trims.{trimming_more, trimming_end}
+use mathlib.Core.Path.{refl}
+use Rattle.scan.proofs.Trims.{trimmed_from}
 use Rattle.scan.proofs.trimmed.Goals as goal
 
-pub loop-end-preserved : goal.loop-end-preserved
-loop-end-preserved c = search (trimming_more, rules)
-
-pub returns-else-s-end-eq32 : goal.returns-else-s-end-eq32
-returns-else-s-end-eq32 c = search (trimming_end, rules)
+pub returns : goal.returns
+returns c = trimmed_from c.args.s.now c.first_in-start.ensures c.trimmed_behind-text.ensures refl
