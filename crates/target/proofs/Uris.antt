@@ -4,7 +4,7 @@ use mathlib.Core.Path.{◌≡◌, refl, ap, ap₂, sym, ◌∙◌}
 use mathlib.Core.Bool.{Bool, true, false, not, cond, ◌&&◌, and-true, and-false}
 use mathlib.Core.List.{List, [], ◌∷◌}
 use Prim.Native.Nat.{ℕ, suc, ◌+◌, ◌-◌, ◌≤◌, ◌<◌}
-use native.Mathlib.Decide.{dec_lt, ℕ_discrete}
+use native.Mathlib.Decide.{dec_lt}
 use native.Mathlib.Nat.{zero-add, sub-zero}
 use native.Mathlib.Numerals.{add-one}
 use native.Mathlib.Omega.{arith}
@@ -52,16 +52,6 @@ module _ {a : List ℕ} {k : ℕ} (g : FirstOf (in_class NotName) a k) where
         let f = name_ends 58 refl g p in
         let e : host_end a ≡ then_some ((ltb 0 k && all is_name (part 0 k a)) && cond (ltb k (length a)) (is_port_number (drop (k + 1) a)) true) k = rw (named_by 58 a f, f.is) in
         e ∙ ap (λ t. then_some ((ltb 0 k && t) && cond (ltb k (length a)) (is_port_number (drop (k + 1) a)) true) k) (sym (name_whole 58 refl g)) ∙ rw (and-true (ltb 0 k))
-
-  -- a host has a byte
-  pub host_empty : k ≡ 0 → None ≡ host_end a
-  host_empty z =
-      by_cases (dec_lt k (length a))
-      (λ l. by_cases (ℕ_discrete (get_or a k 0) 58) (λ c. ended (λ _. c)) (λ n. host_not (λ e. omega arith) n))
-      (λ n. ended (λ h. absurd (n h)))
-    where
-      ended : (k < length a → get_or a k 0 ≡ 58) → None ≡ host_end a
-      ended p = sym (end_by p ∙ rw z)
 
   module _ (s : k ≡ 0 → ⊥) where
     pub host_alone : k ≡ length a → Some k ≡ host_end a

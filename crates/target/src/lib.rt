@@ -30,6 +30,7 @@ pub struct Uri {
 }
 
 // The three parts of a request line, none of them empty, with one space between each two.
+#[tactic(auto, using(crate::proofs::Lines::one_part))]
 pub fn request_line(line: &[u8]) -> Option<Parts>
     ensures { MatchOption result (is_three line.now ≡ false) (PartsAre line.now) }
 {
@@ -53,6 +54,7 @@ pub fn request_line(line: &[u8]) -> Option<Parts>
 }
 
 // Whether a text starts with another.
+#[tactic(auto, using(crate::proofs::Uris::starts_short))]
 pub fn starts_with(t: &[u8], s: &[u8]) -> bool
     ensures { result ≡ starts_with t.now s.now }
 {
@@ -89,6 +91,7 @@ fn host_end(a: &[u8]) -> Option<usize>
 }
 
 // The stream that a path names, 0 where the path is empty.
+#[tactic(auto, using(crate::proofs::Uris::stream_none, crate::proofs::Uris::stream_not))]
 fn stream_in(path: &[u8]) -> Option<u32>
     ensures { result ≡ stream_of_path path.now }
 {

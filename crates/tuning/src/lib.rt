@@ -152,6 +152,7 @@ fn pid_list(s: &[u8]) -> Option<u32>
 }
 
 // The code of an attribute's value on a box with so many frontends; nothing where the value is outside the table.
+#[tactic(auto, unfolding(crate::specs::Values::value_of))]
 pub fn value_of(frontends: u8, attribute: usize, s: &[u8]) -> Option<u32>
     ensures { result ≡ value_of frontends attribute s.now }
 {

@@ -1,9 +1,6 @@
 use mathlib.Core.Path.{◌∙◌}
-use Rattle.target.proofs.Uris.{host_not, host_empty, host_alone, host_port}
+use Rattle.target.proofs.Uris.{host_not, host_alone, host_port}
 use Rattle.target.proofs.host_end.Goals as goal
-
-pub returns-then-k-eq0 : goal.returns-then-k-eq0
-returns-then-k-eq0 c = host_empty c.first_in-k.ensures c.if-k-eq0.true
 
 pub returns-then-k-a : goal.returns-then-k-a
 returns-then-k-a c = host_alone c.first_in-k.ensures c.if-k-eq0.false c.if-k-a.true

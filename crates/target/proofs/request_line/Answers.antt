@@ -1,14 +1,10 @@
 use Prim.Native.Nat.{◌+◌}
 use native.Mathlib.Omega.{arith}
-use borrow.Author.Rules.{rules}
 use Rattle.scan.specs.Text.{is}
 use Rattle.scan.specs.Found.{FirstFrom}
 use Rattle.scan.proofs.Loops.{first_rest}
-use Rattle.target.proofs.Lines.{one_part, two_parts, more_parts, empty_parts, three_parts}
+use Rattle.target.proofs.Lines.{two_parts, more_parts, empty_parts, three_parts}
 use Rattle.target.proofs.request_line.Goals as goal
-
-pub returns-then-line-first : goal.returns-then-line-first
-returns-then-line-first c = search (one_part, rules)
 
 pub returns-then-line-second : goal.returns-then-line-second
 returns-then-line-second c = two_parts c.first_from-first.ensures c.if-line-first.false ((let fact : FirstFrom (is 32) c.args.line.now (c.first_from-first.result + 1) (c.first_from-first.result + 1 + c.first_far.result) = first_rest _ _ _ (omega arith) c.first_far.ensures in fact)) c.if-line-second.true

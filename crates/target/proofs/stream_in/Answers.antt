@@ -1,15 +1,9 @@
 use mathlib.Core.Path.{ap, ◌∙◌}
 use borrow.Author.Rules.{rules}
 use Rattle.digits.specs.Reading.{at_least}
-use Rattle.target.proofs.Uris.{stream_none, stream_not, stream_is}
+use Rattle.target.proofs.Uris.{stream_is}
 use Rattle.target.proofs.stream_in.Goals as goal
 use Rattle.std.proofs.Common.{not}
-
-pub returns-then-is_empty : goal.returns-then-is_empty
-returns-then-is_empty c = search (stream_none, rules)
-
-pub returns-then-not-starts_with : goal.returns-then-not-starts_with
-returns-then-not-starts_with c = search (stream_not, rules)
 
 pub returns : goal.returns
 returns c = let p = c.args.path in

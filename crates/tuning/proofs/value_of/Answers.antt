@@ -1,22 +1,9 @@
 use mathlib.Core.Path.{refl}
 use borrow.Author.Rules.{rules}
-use borrow.Author.Tests.{ne_eqb}
 use Rattle.scan.specs.Text.{text}
 use Rattle.tuning.specs.Values.{pid_list, value_of}
 use Rattle.tuning.proofs.Words.{word_is, or_is}
 use Rattle.tuning.proofs.value_of.Goals as goal
-
-pub returns-in-0 : goal.returns-in-0
-unfolding value_of
-returns-in-0 c = rw c.in-0.is c.plain.ensures
-
-pub returns-in-1 : goal.returns-in-1
-unfolding value_of
-returns-in-1 c = rw c.in-1.is c.plain-in-1.ensures
-
-pub returns-in-2 : goal.returns-in-2
-unfolding value_of
-returns-in-2 c = rw c.in-2.is c.frequency.ensures
 
 pub returns-in-3 : goal.returns-in-3
 unfolding value_of
@@ -38,10 +25,6 @@ pub returns-in-7 : goal.returns-in-7
 unfolding value_of
 returns-in-7 c = rw c.in-7.is (word_is (text "0.35 0.25 0.20") _ _ refl c.word-in-7.ensures)
 
-pub returns-in-8 : goal.returns-in-8
-unfolding value_of
-returns-in-8 c = rw c.in-8.is c.plain-in-8.ensures
-
 pub returns-in-9 : goal.returns-in-9
 unfolding value_of
 returns-in-9 c = rw c.in-9.is (word_is (text "12 23 34 56 78 89 35 45 910") _ _ refl c.word-in-9.ensures)
@@ -49,30 +32,3 @@ returns-in-9 c = rw c.in-9.is (word_is (text "12 23 34 56 78 89 35 45 910") _ _ 
 pub returns-in-10 : goal.returns-in-10
 unfolding value_of
 returns-in-10 c = rw (c.in-10.is, ← word_is (text "all none") _ _ refl c.word-in-10.ensures) (or_is c.word-in-10.result (pid_list c.args.s.now) (search rules))
-
-pub returns-in-11 : goal.returns-in-11
-unfolding value_of
-returns-in-11 c = rw c.in-11.is c.pid_list.ensures
-
-pub returns-in-12 : goal.returns-in-12
-unfolding value_of
-returns-in-12 c = rw c.in-12.is c.pid_list-in-12.ensures
-
-pub returns-in_default : goal.returns-in_default
-unfolding value_of
-returns-in_default c = let n = c.in_default.in_default-own.rest in
-    rw (
-      ne_eqb _ _ n.0.0.0.0.0.0.0.0.0.0.0.0.1,
-      ne_eqb _ _ n.0.0.0.0.0.0.0.0.0.0.0.1,
-      ne_eqb _ _ n.0.0.0.0.0.0.0.0.0.0.1,
-      ne_eqb _ _ n.0.0.0.0.0.0.0.0.0.1,
-      ne_eqb _ _ n.0.0.0.0.0.0.0.0.1,
-      ne_eqb _ _ n.0.0.0.0.0.0.0.1,
-      ne_eqb _ _ n.0.0.0.0.0.0.1,
-      ne_eqb _ _ n.0.0.0.0.0.1,
-      ne_eqb _ _ n.0.0.0.0.1,
-      ne_eqb _ _ n.0.0.0.1,
-      ne_eqb _ _ n.0.0.1,
-      ne_eqb _ _ n.0.1,
-      ne_eqb _ _ n.1,
-    )
