@@ -176,8 +176,8 @@ pub fn are_alike(s: &[u8], t: &[u8], case: Case) -> bool
         .fold(true, |alike, (x, y)| alike & is_pair_alike(case, *x, *y))
 }
 
-// A part of a slice, from start up to, not including, end. A span and no slice is handed on: where a text stands is promised too, so that each
-// function has one answer (promises/proofs/Unique), and no contract can say where a slice lies.
+// A part of a slice, from start up to, not including, end. A span and no slice is handed on, since where a text stands is promised too, and each
+// function so has one answer (promises/proofs/Unique).
 #[derive(Clone, Copy, PartialEq, Eq, Debug)]
 pub struct Span {
     pub start: usize,
