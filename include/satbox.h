@@ -60,7 +60,7 @@
  * Bytes of stack that each call takes, with its arguments on it and its return address. docs/FIRMWARE.md says how that was measured. They are of this
  * archive: one of the same version that another kit built takes others (its MANIFEST names the kit).
  */
-#define SATBOX_STACK_REQUEST 4504u
+#define SATBOX_STACK_REQUEST 4456u
 #define SATBOX_STACK_TICK 3280u
 #define SATBOX_STACK_ORDER 304u
 #define SATBOX_STACK_COLLECT 3280u
