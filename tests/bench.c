@@ -241,7 +241,7 @@ static const struct bench benches[] = {
     {"TEARDOWN", write_teardown, 32, 150, CLOCK, 0, 6868},
     {"T. of four", write_closing, 8, 150, CLOCK, 4332, 0},
     {"bad", write_bad, 0, 150, CLOCK, 0, 0},
-    {"bad", write_bad, 8, 150, CLOCK, 4212, 0},
+    {"bad", write_bad, 8, 150, CLOCK, 4370, 0},
     {"OPTIONS", write_options, 0, 600, CLOCK, 0, 4546},
     {"OPTIONS", write_options, 8, 600, CLOCK, 4996, 5614},
     {"SETUP", write_setup, 8, 600, CLOCK, 0, 0},
