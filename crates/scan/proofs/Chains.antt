@@ -22,7 +22,7 @@ use Rattle.scan.proofs.Parts.{part_length}
 
 -- PLACES
 module _ {A : Type 0} (p : A → Bool) where
-  place_first : (xs : List A) → position_or_len p xs ≡ first p xs
+  pub place_first : (xs : List A) → position_or_len p xs ≡ first p xs
   place_first [] = refl
   place_first (x ∷ xs) = by_test (λ t. cond (not t) (1 + position_or_len p xs) 0 ≡ cond t 0 (suc (first p xs))) (p x) (λ _. refl) (λ _. omega (arith, place_first xs))
 

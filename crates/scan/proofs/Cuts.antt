@@ -2,15 +2,16 @@
 use mathlib.Core.Path.{◌≡◌, refl, ap, ap₂, ◌∙◌, sym}
 use mathlib.Core.Bool.{Bool, true, false, not, cond, ◌&&◌}
 use mathlib.Core.List.{List, [], ◌∷◌, ◌++◌}
-use Prim.Native.Nat.{ℕ, suc, ◌+◌, ◌-◌, ◌≤◌, ◌<◌, max}
+use Prim.Native.Nat.{ℕ, suc, ◌+◌, ◌-◌, ◌≤◌, ◌<◌}
 use native.Mathlib.Omega.{arith}
-use lib.Dec.{ltb, leb-zero, leb-suc-suc}
+use lib.Dec.{eqb, ltb, leb-zero, leb-suc-suc}
 use lib.ListN.{length, take, drop, length-drop}
 use lib.Seq.{drop-drop}
 use borrow.Author.Tests.{lt-ltb, ltb-true, ltb-false, le-leb, lt-leb, eq-eqb, eqb-true}
 use Rattle.scan.specs.Lists.{all, first, part}
-use Rattle.scan.specs.Found.{FirstFrom, cut_from, joined}
-use Rattle.scan.proofs.Bools.{never}
+use Rattle.std.specs.List.{onto_first, slice_split}
+use Rattle.scan.specs.Found.{cut_from, joined}
+use Rattle.scan.proofs.Bools.{never, by_test}
 use Rattle.scan.specs.Text.{is, push, cut}
 
 -- the pieces after the separator at place k: none where the list ends there
@@ -54,33 +55,17 @@ cut_turn b p s {e} h q =
 pub cut_end : (b p : ℕ) (s : List ℕ) → length s < p → cut_from b p s ≡ []
 cut_end b p s h = rw (lt-leb p (length s) h)
 
--- the search for a piece that passes: n pieces before place p did not
-pub record Among (q : List ℕ → Bool) (b : ℕ) (s : List ℕ) (p n : ℕ) : Type 0 where
-  pub inside : p ≤ length s + 1
-  pub fewer : n ≤ p
-  pub same : n + first q (cut_from b p s) ≡ first q (cut b s)
+-- the pieces are those that std gives
+onto_push : (x : ℕ) (ls : List (List ℕ)) → onto_first x ls ≡ push x ls
+onto_push x [] = refl
+onto_push x (l ∷ ls) = refl
 
-pub among_start : (q : List ℕ → Bool) (b : ℕ) (s : List ℕ) → Among q b s 0 0
-among_start q b s = record { inside = omega arith; fewer = omega arith; same = rw (← cut_start b s) (omega arith) }
-
-pub among_end : {q : List ℕ → Bool} {b : ℕ} {s : List ℕ} {p n : ℕ} → Among q b s p n → length s < p → n ≡ first q (cut b s)
-among_end {q} {b} {s} {p} {n} a h =
-    let z : first q (cut_from b p s) ≡ 0 = ap (first q) (cut_end b p s h) in
-    omega (arith, a.same)
-
-module _ {q : List ℕ → Bool} {b : ℕ} {s : List ℕ} {p n e : ℕ} {t : Bool} (a : Among q b s p n) (h : p ≤ length s) (f : FirstFrom (is b) s p e) (v : t ≡ q (part p e s)) where
-  pub among_hit : t ≡ true → n ≡ first q (cut b s)
-  among_hit y =
-      let z : first q (cut_from b p s) ≡ 0 = ap (first q) (cut_turn b p s h f.is) ∙ rw (sym v ∙ y) in
-      omega (arith, a.same)
-
-  pub among_more : t ≡ false → Among q b s (e + 1) (n + 1)
-  among_more d =
-      let z : first q (cut_from b p s) ≡ suc (first q (cut_from b (e + 1) s)) = ap (first q) (cut_turn b p s h f.is) ∙ rw (sym v ∙ d) in
-      let i : n ≤ p = a.fewer in
-      let j : p ≤ e = f.from in
-      let w : e ≤ max p (length s) = f.within in
-      record { inside = omega arith; fewer = omega arith; same = omega arith ∙ a.same }
+pub split_cut : (b : ℕ) (xs : List ℕ) → slice_split (λ x. eqb x b) xs ≡ cut b xs
+split_cut b [] = refl
+split_cut b (x ∷ xs) =
+    by_test (λ t. cond t ([] ∷ slice_split (λ y. eqb y b) xs) (onto_first x (slice_split (λ y. eqb y b) xs)) ≡ cond t ([] ∷ cut b xs) (push x (cut b xs))) (eqb x b)
+    (λ _. ap (λ ls. [] ∷ ls) (split_cut b xs))
+    (λ _. ap (onto_first x) (split_cut b xs) ∙ onto_push x (cut b xs))
 
 -- the pieces joined again are the text
 joined_push : (b x : ℕ) (ls : List (List ℕ)) → joined b (push x ls) ≡ x ∷ joined b ls

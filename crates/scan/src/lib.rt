@@ -62,7 +62,7 @@ fn first_among(s: &[u8], c: Class) -> usize
 }
 
 // The place of the first byte that is x. Eight bytes are compared in a row before the end is looked for again. They are counted: taken by
-// `as_chunks`, or sought by `position`, they cost a SETUP some 150 instructions more.
+// `as_chunks`, or sought by `position`, they cost a SETUP 120 to 150 instructions more.
 fn first_is(s: &[u8], x: u8) -> usize
     ensures { FirstOf (in_class (Class.Is x)) s.now result }
 {
@@ -85,8 +85,8 @@ pub fn all_in(s: &[u8], c: Class) -> bool
     s.iter().fold(true, |all, b| all & in_class(c, *b))
 }
 
-// The place of the first byte that is not text, or the length. Blocks of sixteen bytes of text are passed over; in the block that holds
-// another byte its place is sought without looking for the end.
+// The place of the first byte that is not text, or the length. Blocks of sixteen bytes of text are passed over; the block that holds another
+// byte is looked at once more, for its place.
 pub fn text_end(s: &[u8]) -> usize
     ensures { FirstOf (in_class Class.NotText) s.now result }
 {
@@ -154,7 +154,7 @@ fn other_case(b: u8) -> u8
     b
 }
 
-// Of two bytes whose case is ignored, the first is compared in both its cases: where it is known, that is one comparison.
+// Of two bytes whose case is ignored, the first is compared in both its cases: where it is known, so are both.
 fn is_pair_alike(case: Case, x: u8, y: u8) -> bool
     ensures { result ≡ eqb (seen case x) (seen case y) }
 {
@@ -164,7 +164,8 @@ fn is_pair_alike(case: Case, x: u8, y: u8) -> bool
     }
 }
 
-// Whether two texts are the same bytes, or the same but for the case of letters. There is no early way out: a known word is compared at once.
+// Whether two texts are the same bytes, or the same but for the case of letters. There is no early way out, so that many bytes can be compared at
+// once.
 pub fn are_alike(s: &[u8], t: &[u8], case: Case) -> bool
     ensures { result ≡ are_alike case s.now t.now }
 {
@@ -176,8 +177,8 @@ pub fn are_alike(s: &[u8], t: &[u8], case: Case) -> bool
         .fold(true, |alike, (x, y)| alike & is_pair_alike(case, *x, *y))
 }
 
-// A part of a slice, from start up to, not including, end. A span and no slice is handed on, since where a text stands is promised too, and each
-// function so has one answer (promises/proofs/Unique).
+// A part of a slice, from start up to, not including, end. A span and no slice is handed on, since where a text stands is promised, so that each
+// function has one answer (promises/proofs/Unique): a slice could say that too, but only by its address (`ref_ptr`).
 #[derive(Clone, Copy, PartialEq, Eq, Debug)]
 pub struct Span {
     pub start: usize,

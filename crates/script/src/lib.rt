@@ -110,16 +110,8 @@ pub fn unfold(buf: &mut [u8], s: &[u8]) -> usize
 pub fn place_among(words: &[u8], s: &[u8], case: Case) -> usize
     ensures { result ≡ place_among case words.now s.now }
 {
-    let mut n = 0;
-    let mut p = 0;
-    // By places: a text that ends in a space, or is empty, has an empty word more, which `Words` does not tell from no word.
-    while p <= words.len() {
-        let e = scan::first_from(words, p, Class::Is(b' '));
-        if scan::are_alike(&words[p..e], s, case) {
-            return n;
-        }
-        n += 1;
-        p = e + 1;
-    }
-    n
+    words
+        .split(|b| *b == b' ')
+        .take_while(|word| !scan::are_alike(word, s, case))
+        .count()
 }

@@ -7,7 +7,8 @@ use Rattle.std.specs.List.{slice_split}
 use Rattle.scan.specs.Lists.{all}
 use Rattle.tuning.specs.Values.{are_pids}
 use Rattle.tuning.specs.Found.{is_pid}
-use Rattle.tuning.proofs.Pieces.{split_cut, list_all_all}
+use Rattle.scan.proofs.Cuts.{split_cut}
+use Rattle.tuning.proofs.Pieces.{list_all_all}
 use Rattle.tuning.proofs.are_pids.Goals as goal
 
 pub returns : goal.returns
