@@ -74,18 +74,13 @@ pub fn number(s: &[u8], zeros: Zeros, most: usize, limit: u32) -> Option<u32>
     number_in(10, s, most, limit)
 }
 
-// Where in `s` the digits stand of the number that the whole text at a place is, in the base, within the same limits; 0 to 0 where it is none.
-pub fn digits_at(base: u8, s: &[u8], place: Span, most: usize, limit: u32) -> Span
+// Where in `s` the digits stand of the number that the whole text at a place is, in the base, within the same limits.
+pub fn digits_at(base: u8, s: &[u8], place: Span, most: usize, limit: u32) -> Option<Span>
     ensures { Stands base most limit s.now place result }
 {
-    let Some(text) = s.get(place.start..place.end) else {
-        return Span { start: 0, end: 0 };
-    };
-    if number_in(base, text, most, limit).is_some() {
-        place
-    } else {
-        Span { start: 0, end: 0 }
-    }
+    let text = s.get(place.start..place.end)?;
+    number_in(base, text, most, limit)?;
+    Some(place)
 }
 
 // What was read, where it is no less than `least`.

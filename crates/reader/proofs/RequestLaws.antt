@@ -21,7 +21,7 @@ use Rattle.digits.proofs.Limits.{are_digits_law}
 use Rattle.lines.specs.Lines.{is_laid_out, request_line, header_lines}
 use Rattle.lines.specs.Headers.{values_of}
 use Rattle.lines.specs.Laid.{first_value, times_of, place_of, first_seen, unseen, SeenIs, value_start, LinesAre}
-use Rattle.std.specs.Prelude.{Some, None, Option, is_some, unwrap_or}
+use Rattle.std.specs.Prelude.{Some, None, Option, MatchOption, is_some, unwrap_or}
 use Rattle.lines.specs.declared.Seen.{Seen}
 use Rattle.lines.specs.declared.Seen.TheVariants.{Never, Once, Again}
 use Rattle.lines.specs.declared.Lines.{Lines}
@@ -136,7 +136,7 @@ module _ {s : List ℕ} {seen : Seen} {place : Span} (o : seen ≡ Once place) (
   value_is = text_held s value place q.values.value
 
   -- the digits stand where the value stands, if it is a number
-  here : Test (is_some (read_in 10 cseq_most cseq_limit value)) → digits_at 10 cseq_most cseq_limit s place ≡ cseq_place s
+  here : Test (is_some (read_in 10 cseq_most cseq_limit value)) → unwrap_or (digits_at 10 cseq_most cseq_limit s place) nowhere ≡ cseq_place s
   here (is y) =
       let v = value in
       let e : cseq_of s ≡ v = cseq_is ∙ rw y in
@@ -144,12 +144,18 @@ module _ {s : List ℕ} {seen : Seen} {place : Span} (o : seen ≡ Once place) (
       rw (value_is, y, e, n, ← q.starts, ← holds_length q.values.value)
   here (isnt n) = let e : cseq_of s ≡ [] = cseq_is ∙ rw n in rw (value_is, n, e)
 
-  pub cseq_once : {r : Span} → Stands 10 cseq_most cseq_limit s place r → CseqIs s r
-  cseq_once {r} w =
-      record {
-        is = w.is ∙ here (case (is_some (read_in 10 cseq_most cseq_limit value)));
-        held = rw (cseq_is, ← value_is) w.holds;
-      }
+  pub cseq_once : {r : Option Span} {p : Span} → Stands 10 cseq_most cseq_limit s place r → p ≡ unwrap_or r nowhere → CseqIs s p
+  cseq_once {r} w e =
+      rw e
+      (record {
+        is = ap (λ x. unwrap_or x nowhere) w.is ∙ here (case (is_some (read_in 10 cseq_most cseq_limit value)));
+        held = rw (cseq_is, ← value_is) (held r w.holds);
+      })
+    where
+      held : (x : Option Span) → MatchOption x (digits_read 10 cseq_most cseq_limit (text_at s place) ≡ []) (λ at. Holds s (digits_read 10 cseq_most cseq_limit (text_at s place)) at.start at.end)
+          → Holds s (digits_read 10 cseq_most cseq_limit (text_at s place)) (unwrap_or x nowhere).start (unwrap_or x nowhere).end
+      held None e = rw e (holds_nothing s)
+      held (Some at) h = h
 
 -- REFUSED REQUESTS
 pub request_refused : {frontends : ℕ} {s : List ℕ} {r : Request} {x : Refusal} {c v : Span}

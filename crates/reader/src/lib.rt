@@ -61,7 +61,7 @@ fn cseq_in(s: &[u8], seen: Seen) -> Span
     let Seen::Once(value) = seen else {
         return Span { start: 0, end: 0 };
     };
-    digits::digits_at(10, s, value, 10, 4294967295)
+    digits::digits_at(10, s, value, 10, 4294967295).unwrap_or(Span { start: 0, end: 0 })
 }
 
 fn session_at(s: &[u8], seen: Seen) -> Session
