@@ -1,6 +1,6 @@
 -- Where the digits of a number stand that was read at a place, for any base, count of digits and limit. Assumes nothing.
 use mathlib.Core.Path.{◌≡◌, ap, sym, ◌∙◌}
-use mathlib.Core.Bool.{true, false}
+use mathlib.Core.Bool.{Bool}
 use mathlib.Core.List.{List, []}
 use Prim.Native.Nat.{ℕ, ◌+◌, ◌≤◌, ◌<◌}
 use mathlib.Core.Logic.{◌⊎◌, inl, inr}
@@ -12,7 +12,9 @@ use Rattle.scan.specs.declared.Span.{Span}
 use Rattle.scan.proofs.Parts.{text_inside, text_outside, text_none}
 use Rattle.digits.specs.Reading.{read_in}
 use Rattle.digits.specs.Standing.{Stands}
-use Rattle.std.specs.Prelude.{Option, Some, None}
+use Rattle.scan.proofs.Options.{by_some}
+use Rattle.std.specs.Bool.{then_some}
+use Rattle.std.specs.Prelude.{Option, None, is_some}
 
 module _ (base most limit : ℕ) (s : List ℕ) (place : Span) where
   empty : text_at s place ≡ [] → Stands base most limit s place None
@@ -28,8 +30,10 @@ module _ (base most limit : ℕ) (s : List ℕ) (place : Span) where
     here : text_at s place ≡ x
     here = text_inside s place h.0 h.1 ∙ sym h.2
 
-    pub stands_here : {v : ℕ} → Some v ≡ read_in base most limit x → Stands base most limit s place (Some place)
-    stands_here e = record { is = rw (here, ← e); holds = rw (here, ← e) (record { order = h.0; within = h.1; is = sym h.2 }) }
-
-    pub stands_nowhere : None ≡ read_in base most limit x → Stands base most limit s place None
-    stands_nowhere e = record { is = rw (here, ← e); holds = rw (here, ← e) }
+    pub stands_inside : {r : Option ℕ} {t : Bool} {o : Option Span} → r ≡ read_in base most limit x → t ≡ is_some r → o ≡ then_some t place → Stands base most limit s place o
+    stands_inside {r} {t} e q w =
+        let read : is_some (read_in base most limit (text_at s place)) ≡ t = ap (λ y. is_some (read_in base most limit y)) here ∙ ap is_some (sym e) ∙ sym q in
+        record {
+          is = rw read w;
+          holds = rw w (by_some _ _ t place (λ y. rw (read ∙ y) (record { order = h.0; within = h.1; is = sym (text_inside s place h.0 h.1) })) (λ n. rw (read ∙ n)));
+        }

@@ -79,8 +79,9 @@ pub fn digits_at(base: u8, s: &[u8], place: Span, most: usize, limit: u32) -> Op
     ensures { Stands base most limit s.now place result }
 {
     let text = s.get(place.start..place.end)?;
-    number_in(base, text, most, limit)?;
-    Some(place)
+    number_in(base, text, most, limit)
+        .is_some()
+        .then_some(place)
 }
 
 // What was read, where it is no less than `least`.
