@@ -47,7 +47,7 @@ pub fn line(s: &[u8], at: usize) -> &[u8]
 }
 
 // What is left of a text, gone through line by line: each comes without its LF, and behind the last LF comes one only where bytes stand.
-#[derive(Drop)]
+#[derive(PartialEq, Eq, Debug, Drop)]
 pub struct Lines<'a>(pub &'a [u8]);
 
 impl<'a> Iterator for Lines<'a> {
@@ -68,7 +68,7 @@ impl<'a> Iterator for Lines<'a> {
 }
 
 // What is left of a line, gone through word by word: words have one space between each two.
-#[derive(Drop)]
+#[derive(PartialEq, Eq, Debug, Drop)]
 pub struct Words<'a>(pub &'a [u8]);
 
 impl<'a> Words<'a> {
