@@ -1,6 +1,7 @@
 // The lines of a request: whether its layout is whole, and where the request line and the values of the known headers stand. One pass
-// looks at each byte once for the layout (twice in the sixteen bytes where a line ends), at a header's name once more for each known name
-// that is as long, and once for its form where it is none of them, and at the outer spaces of a known header's value once more.
+// looks at each line once for the layout, and once more at the sixteen bytes in which it ends, lines behind it that start there among them; at
+// the byte where each known name would end, at a header's name once more for each known one that is as long, and once for its form where it is
+// none of them; and at the outer spaces of a known header's value once more.
 #![tactic(auto)]
 
 ghost use Rattle.std.specs.Prelude.{◌≡◌, ◌+◌, ◌≤◌, length, drop, get_or, false, MatchOption};

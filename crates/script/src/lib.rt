@@ -1,5 +1,6 @@
 // What the programs read: their input as far as a buffer reaches, its lines, a line's words, and the short form in which a line holds a request.
-// Every function but the first has an answer for all bytes and all places, and looks at each byte at most once, `place_among` once for each word that is as long.
+// Every function but the first has an answer for all bytes and all places, and looks at each byte at most once; `place_among` compares each word that is as
+// long as the text with it besides.
 #![tactic(auto)]
 
 ghost use Rattle.std.specs.Io.{ReadsAtMost};
