@@ -18,7 +18,7 @@ pub(crate) fn number(words: &mut Words<'_>) -> u32 {
 }
 
 // A request in its short form, and when, by whom and with which draw it is sent.
-#[derive(Drop)]
+#[derive(PartialEq, Eq, Debug, Drop)]
 pub(crate) struct Asking<'a> {
     pub(crate) clock: u32,
     pub(crate) address: u32,
@@ -38,7 +38,7 @@ impl<'a> Asking<'a> {
 }
 
 // A length of a journal that is lent is given only where it is not the box's.
-#[derive(Drop)]
+#[derive(PartialEq, Eq, Debug, Drop)]
 pub(crate) enum Command<'a> {
     // `box F C`, and the set of sources of each frontend from the first on where it does not reach all four
     Make(Settings),

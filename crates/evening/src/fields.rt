@@ -14,7 +14,7 @@ pub(crate) fn medium(v: u32) -> u16 {
 }
 
 // The field, the place of the session, the stream or the frontend, the value, and of a PID its place in the list.
-#[derive(Drop)]
+#[derive(PartialEq, Eq, Debug, Drop)]
 pub(crate) struct Setting<'a> {
     pub(crate) field: &'a [u8],
     pub(crate) place: usize,

@@ -28,7 +28,7 @@ pub(crate) fn state(rt: &impl Print, t: &SatBox) -> io::Result<()> {
 }
 
 // Bytes in hexadecimal, each after a space.
-#[derive(Drop)]
+#[derive(PartialEq, Eq, Debug, Drop)]
 struct Hex<'a>(&'a [u8]);
 
 impl fmt::Display for Hex<'_> {
