@@ -17,7 +17,7 @@ pub fn has_source(set: u8, source: u32) -> bool
     if 4 < source {
         return false;
     }
-    (set as u32 >> (source - 1)) % 2 == 1
+    (u32::from(set) >> (source - 1)) % 2 == 1
 }
 
 // How many sources are in a set.
@@ -42,8 +42,8 @@ pub fn set_of(settings: Settings, frontend: u32) -> u8
     reach[f - 1]
 }
 
-// Whether the first sets, of the frontends, have sources and none beyond the fourth, and the others are empty. There is no way out inside: with one
-// the compiler copies the table that is looked at once more.
+// Whether the first sets, of the frontends, have sources and none beyond the fourth, and the others are empty. There is no way out inside, so that
+// all eight are looked at at once.
 pub(crate) fn are_sets(reach: &[u8], frontends: usize) -> bool
     ensures { result ≡ are_sets frontends reach.now }
 {
