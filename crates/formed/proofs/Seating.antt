@@ -11,7 +11,7 @@ use native.Mathlib.Omega.{arith}
 use lib.Dec.{eqb, leb}
 use lib.ListN.{length, get_or, set, take, drop, replicate, length-set, get_or-replicate, get_or-eq_default}
 use lib.Seq.{get_or-set_same, get_or-set_other}
-use borrow.Author.Tests.{eq-eqb, ne_eqb, eqb-true, eqb-false, leb-true, not-true}
+use borrow.Author.Tests.{eq-eqb, ne_eqb, eqb-true, eqb-false, leb-true, not-true, not-false}
 use Rattle.scan.specs.Lists.{is_between, all}
 use Rattle.scan.proofs.Loops.{turn, end, Passing, passing_start, passing_more, passing_not, passing_end}
 use Rattle.scan.proofs.Bools.{never, by_cases, and_both, Case, is, isnt, case, Same, sames, same, other, both}
@@ -22,8 +22,7 @@ use Rattle.table.proofs.Counts.{bit, bit_no, bit_yes, count_none, none_count, co
 use Rattle.table.proofs.Rules.{numbers_of, is_proper}
 use Rattle.table.specs.declared.Session.{Session}
 use Rattle.table.proofs.Places.{failed, held, Counting, counting_start, counting_by, counting_end}
-use Rattle.formed.specs.Standings.{latest, oldest}
-use Rattle.formed.proofs.Vacant.{Clear}
+use Rattle.formed.specs.Standings.{latest, oldest, Clear}
 
 -- a session is free, or on a stream that is live by the frontends at the streams' IDs
 abbrev pub is_homed : List ℕ → Session → Bool
@@ -117,6 +116,57 @@ oldest_most (s ∷ l) = by (is_free s) (oldest_most l)
     by true h = h
     by false h = omega arith
 
+-- a free place is blank exactly if it is the one where nobody is
+none_blank : (s : Session) → s ≡ no_session → is_blank s ≡ true
+unfolding is_blank
+none_blank s e = rw e
+
+blank_none : (s : Session) → s.number ≡ 0 → is_blank s ≡ true → s ≡ no_session
+unfolding is_blank
+blank_none s n e =
+    let a = and_both _ (eqb s.playing 0) e in
+    let b = and_both _ (eqb s.owner 0) a.0 in
+    let c = and_both _ (eqb s.stream 0) b.0 in
+    let d = and_both _ (eqb s.port 0) c.0 in
+    let f = and_both (eqb s.address 0) (eqb s.last 0) d.0 in
+    let e0 : s.address ≡ 0 = eqb-true _ _ f.0 in
+    let e1 : s.last ≡ 0 = eqb-true _ _ f.1 in
+    let e2 : s.port ≡ 0 = eqb-true _ _ d.1 in
+    let e3 : s.stream ≡ 0 = eqb-true _ _ c.1 in
+    let e4 : s.owner ≡ 0 = eqb-true _ _ b.1 in
+    let e5 : s.playing ≡ 0 = eqb-true _ _ a.1 in
+    let w : ◌≡◌ {A = Session} (record { number = s.number; address = s.address; last = s.last; port = s.port; stream = s.stream; owner = s.owner; playing = s.playing }) no_session = cc in
+    w
+
+-- what comparing a place with that one says
+abbrev alike : Session → Bool
+alike s = eqb s.number 0 && (eqb s.address 0 && (eqb s.last 0 && (eqb s.port 0 && (eqb s.stream 0 && (eqb s.owner 0 && eqb s.playing 0)))))
+
+pub differs : (s : Session) → true ≡ not (alike s) → s ≡ no_session → ⊥
+differs s e z = never refl (rw z at e)
+
+pub is_alike : (s : Session) → false ≡ not (alike s) → s ≡ no_session
+is_alike s e =
+    let a = and_both (eqb s.number 0) _ (not-false (alike s) (sym e)) in
+    let b = and_both (eqb s.address 0) _ a.1 in
+    let c = and_both (eqb s.last 0) _ b.1 in
+    let d = and_both (eqb s.port 0) _ c.1 in
+    let f = and_both (eqb s.stream 0) _ d.1 in
+    let g = and_both (eqb s.owner 0) (eqb s.playing 0) f.1 in
+    let e0 : s.number ≡ 0 = eqb-true _ _ a.0 in
+    let e1 : s.address ≡ 0 = eqb-true _ _ b.0 in
+    let e2 : s.last ≡ 0 = eqb-true _ _ c.0 in
+    let e3 : s.port ≡ 0 = eqb-true _ _ d.0 in
+    let e4 : s.stream ≡ 0 = eqb-true _ _ f.0 in
+    let e5 : s.owner ≡ 0 = eqb-true _ _ g.0 in
+    let e6 : s.playing ≡ 0 = eqb-true _ _ g.1 in
+    let w : ◌≡◌ {A = Session} (record { number = s.number; address = s.address; last = s.last; port = s.port; stream = s.stream; owner = s.owner; playing = s.playing }) no_session = cc in
+    w
+
+not_blank : (s : Session) → s.number ≡ 0 → (s ≡ no_session → ⊥) → Case (is_blank s) → false ≡ is_blank s
+not_blank s z h (is y) = absurd (h (blank_none s z y))
+not_blank s z h (isnt n) = sym n
+
 module _ (clock bytes size : ℕ) (feeds : List ℕ) (l : List Session) where
   -- what no such sessions have
   pub ill : ((are_distinct (numbers_of l) ≡ true) → (all (is_homed feeds) l ≡ true) → (all (is_proper clock) l ≡ true) → ⊥) → None ≡ seats_of clock bytes size feeds l
@@ -170,33 +220,36 @@ module _ {clock : ℕ} {feeds : List ℕ} {l : List Session} {i n old : ℕ} {nu
   seating_most id h = omega (arith, (w.owned id h).most, (w.owned id h).inside, w.places)
 
   -- what admitting the next session asks
-  pub seating_asks : (s : Session) → length feeds ≡ 9 → (s.number ≡ 0 → ⊥) → (length feeds ≡ 9) × (length numbers ≡ 32) × (eqb s.number 0 ≡ false) × (n ≤ 32) × (all is_zero (drop n numbers) ≡ true)
-  seating_asks s e k = (e, w.room, ne_eqb s.number 0 k, omega (arith, w.most, w.opened.inside, w.places), w.behind)
+  pub seating_asks : (s : Session) → (s.number ≡ 0 → ⊥) → (eqb s.number 0 ≡ false) × (n ≤ 32) × (all is_zero (drop n numbers) ≡ true)
+  seating_asks s k = (ne_eqb s.number 0 k, omega (arith, w.most, w.opened.inside, w.places), w.behind)
 
   module _ (h : i < 32) where
     within : i < length l
     within = omega (arith, w.places)
 
-    module _ (z : (get_or l i no_session).number ≡ 0) {r : Bool} (e : r ≡ is_blank (get_or l i no_session)) where
+    -- a free place that is not empty
+    pub seating_not_empty : (bytes size : ℕ) → (get_or l i no_session).number ≡ 0 → (get_or l i no_session ≡ no_session → ⊥) → None ≡ seats_of clock bytes size feeds l
+    seating_not_empty bytes size z h =
+        let s = get_or l i no_session in
+        let e : false ≡ is_blank s = not_blank s z h (case (is_blank s)) in
+        ill clock bytes size feeds l (λ d f p. never p (sym (passing_not (is_proper clock) no_session w.proper within (rw (eq-eqb s.number 0 z) e) refl)))
+
+    module _ (e : get_or l i no_session ≡ no_session) where
       free : has_number 0 (get_or l i no_session) ≡ true
-      free = eq-eqb (get_or l i no_session).number 0 z
+      free = rw e
 
-      -- a free place that is not empty
-      pub seating_not_empty : (bytes size : ℕ) → not r ≡ true → None ≡ seats_of clock bytes size feeds l
-      seating_not_empty bytes size q = ill clock bytes size feeds l (λ d f p. never p (sym (passing_not (is_proper clock) no_session w.proper within (rw free e) (not-true r q))))
-
-      pub seating_free : not r ≡ false → Seating clock feeds l (i + 1) numbers owners n old
-      seating_free q =
+      pub seating_free : Seating clock feeds l (i + 1) numbers owners n old
+      seating_free =
           record {
             places = w.places;
             room = w.room;
             ids = w.ids;
             most = omega (arith, w.most);
-            proper = passing_more (is_proper clock) no_session w.proper within refl (rw free (held e q));
+            proper = passing_more (is_proper clock) no_session w.proper within refl (rw free (none_blank (get_or l i no_session) e));
             homed = passing_more (is_homed feeds) no_session w.homed within refl (rw free);
             opened = counting_by is_open no_session w.opened within (rw free (omega arith));
             owned = λ id k. counting_by (owns id) no_session (w.owned id k) within (rw free (omega arith));
-            having = λ m k. counting_by (has_number m) no_session (w.having m k) within (rw (ne_eqb (get_or l i no_session).number m (λ q. k (sym q ∙ z))) (omega arith));
+            having = λ m k. counting_by (has_number m) no_session (w.having m k) within (rw (ne_eqb (get_or l i no_session).number m (λ q. k (sym q ∙ ap (λ (s : Session). s.number) e))) (omega arith));
             once = w.once;
             behind = w.behind;
             young = w.young;
@@ -239,7 +292,7 @@ module _ {clock : ℕ} {feeds : List ℕ} {l : List Session} {i n old : ℕ} {nu
         pub seating_owner : (get_or l i no_session).owner ≤ 1
         seating_owner = seated_owner clock (get_or l i no_session) seated
 
-        pub seating_more : {m : ℕ} → length feeds ≡ 9 → m ≡ min (get_or l i no_session).last old → Seating clock feeds l (i + 1) (set numbers n (get_or l i no_session).number) (set owners (get_or l i no_session).stream (get_or owners (get_or l i no_session).stream 0 + (get_or l i no_session).owner)) (n + 1) m
+        pub seating_more : {m : ℕ} → length feeds ≡ 9 → m ≡ min old (get_or l i no_session).last → Seating clock feeds l (i + 1) (set numbers n (get_or l i no_session).number) (set owners (get_or l i no_session).stream (get_or owners (get_or l i no_session).stream 0 + (get_or l i no_session).owner)) (n + 1) m
         seating_more {m} size since =
             let v = (get_or l i no_session).number in
             let new : count (is_number v) (take n numbers) ≡ 0 = count_none (is_number v) (take n numbers) (not-true _ home.1) in
@@ -282,8 +335,7 @@ rest : {clock : ℕ} {feeds : List ℕ} {l : List Session} {numbers owners : Lis
 rest {clock} {feeds} {l} {numbers} {owners} {n} {old} c zero i e h w = let z : i ≡ 32 = omega arith in subst (λ j. Seating clock feeds l j numbers owners n old) z w
 rest {clock} c (suc k) i e h w =
     let t : i < 32 = omega arith in
-    let u = c.nobody i h t in
-    rest c k (i + 1) (omega arith) (omega arith) (seating_free w t u.number (sym u.blank) refl)
+    rest c k (i + 1) (omega arith) (omega arith) (seating_free w t (c.nobody i h t))
 
 module _ {clock : ℕ} {feeds : List ℕ} {l : List Session} {i n old last : ℕ} {numbers owners : List ℕ} (c : Clear l last) (w : Seating clock feeds l i numbers owners n old) (h : last ≤ i) where
   all_places : Seating clock feeds l 32 numbers owners n old
