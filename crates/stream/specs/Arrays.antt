@@ -1,4 +1,4 @@
--- What the crates promise each other of a stream's values and PIDs: each attribute by its place, ascending lists, and a list at the front of an array
+-- What the crates promise each other of a stream's values and PIDs: each attribute by its place, ascending lists, and a list
 -- while it is edited. No call of the box reaches it. Assumes nothing.
 use Rattle.std.specs.Prelude.{ℕ, suc, ◌-◌, ◌≤◌, ◌<◌, ◌≡◌, Bool, true, false, cond, ◌&&◌, ◌||◌, eqb, leb, ltb, length, take, drop, get_or, replicate, Option, Some, None, Result, Ok, Err}
 use mathlib.Core.List.{List, [], ◌∷◌, ◌++◌, foldr}

@@ -98,7 +98,7 @@ pub fn is_sound(m: Stream, frontends: u16) -> bool
     if m.frontend == 0 {
         return is_unused(m);
     }
-    if frontends < m.frontend as u16 {
+    if frontends < u16::from(m.frontend) {
         return false;
     }
     if !are_in_range(v) {
@@ -113,7 +113,7 @@ pub fn is_sound(m: Stream, frontends: u16) -> bool
     if !((m.all == 0) | (m.count == 0)) {
         return false;
     }
-    is_padded(&m.pids, m.count as usize)
+    is_padded(&m.pids, usize::from(m.count))
 }
 
 // Why a query is not merged.

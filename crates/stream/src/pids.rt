@@ -1,5 +1,5 @@
 // A stream's PIDs as they lie in its place: an ascending list at the front of an array, and zeros behind it.
-ghost use Rattle.std.specs.Prelude.{◌≡◌, ◌≤◌, length, drop};
+ghost use Rattle.std.specs.Prelude.{◌≡◌, ◌≤◌, drop};
 ghost use Rattle.scan.specs.Lists.{all};
 ghost use Rattle.stream.specs.Values.{is_zero};
 ghost use Rattle.stream.specs.Pids.{is_padded, added, removed, replaced, edited, choice_of, chosen};
@@ -20,11 +20,11 @@ fn are_zeros(pids: &[u16]) -> bool
 }
 
 // Whether an array is all zeros from a place on. Most lists are short: behind the eighth place it is then known how many are looked at.
-pub(crate) fn are_zero(pids: &[u16], from: usize) -> bool
-    requires { from ≤ length pids.now }
+pub(crate) fn are_zero(pids: &[u16; 32], from: usize) -> bool
+    requires { from ≤ 32 }
     ensures { result ≡ all is_zero (drop from pids.now) }
 {
-    if from <= 8 && 8 <= pids.len() {
+    if from <= 8 {
         are_zeros(&pids[from..8]) & are_zeros(&pids[8..])
     } else {
         are_zeros(&pids[from..])
@@ -32,10 +32,10 @@ pub(crate) fn are_zero(pids: &[u16], from: usize) -> bool
 }
 
 // Whether an array is `count` PIDs that ascend, and zeros after them. The last PID is the highest: it alone is held to 8191.
-pub(crate) fn is_padded(pids: &[u16], count: usize) -> bool
+pub(crate) fn is_padded(pids: &[u16; 32], count: usize) -> bool
     ensures { result ≡ is_padded count 0 pids.now }
 {
-    if pids.len() < count {
+    if Stream::PIDS < count {
         return false;
     }
     let mut least = 0;
@@ -78,7 +78,7 @@ fn replace(code: u32, text: &[u8]) -> Result<Picked, Refusal>
 fn edit(m: Stream, del: u32, delpids: &[u8], add: u32, addpids: &[u8]) -> Result<Picked, Refusal>
     ensures { Chooses (edited added add addpids.now (edited removed del delpids.now (choice_of m))) result }
 {
-    let mut list = PidList::first_of(m.pids, m.count as usize);
+    let mut list = PidList::first_of(m.pids, usize::from(m.count));
     if m.all != 0 {
         return Ok(Picked { list, all: true });
     }
