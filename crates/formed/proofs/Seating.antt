@@ -2,16 +2,17 @@
 -- met what no sessions of a well-formed table have. Assumes nothing.
 use Rattle.std.specs.Prelude.{Option, Some, None}
 use mathlib.Core.Path.{◌≡◌, refl, sym, ◌∙◌, ap, subst}
-use mathlib.Core.Bool.{Bool, true, false, not, ◌&&◌, ◌||◌, cond, and-false, or_assoc}
+use mathlib.Core.Bool.{Bool, true, false, not, ◌&&◌, ◌||◌, cond, and-false, and_assoc, or_assoc}
 use mathlib.Core.List.{List, [], ◌∷◌}
 use Prim.Native.Nat.{ℕ, zero, suc, ◌+◌, ◌*◌, ◌-◌, ◌%◌, ◌≤◌, ◌<◌, min}
 use native.Mathlib.Numerals.{add-one}
 use native.Mathlib.Decide.{dec_lt}
 use native.Mathlib.Omega.{arith}
 use lib.Dec.{eqb, leb}
-use lib.ListN.{length, get_or, set, take, drop, replicate, length-set, get_or-replicate, get_or-eq_default}
+use lib.ListN.{length, get_or, set, take, drop, replicate, length-set, length-take, get_or-replicate, get_or-eq_default}
+use Rattle.std.proofs.lemmas.List.{get_or-take}
 use lib.Seq.{get_or-set_same, get_or-set_other}
-use borrow.Author.Tests.{eq-eqb, ne_eqb, eqb-true, eqb-false, leb-true, not-true, not-false}
+use borrow.Author.Tests.{eq-eqb, ne_eqb, eqb-true, eqb-false, leb-true, not-true}
 use Rattle.scan.specs.Lists.{is_between, all}
 use Rattle.scan.proofs.Loops.{turn, end, Passing, passing_start, passing_more, passing_not, passing_end}
 use Rattle.scan.proofs.Bools.{never, by_cases, and_both, Case, is, isnt, case, Same, sames, same, other, both}
@@ -22,7 +23,7 @@ use Rattle.table.proofs.Counts.{bit, bit_no, bit_yes, count_none, none_count, co
 use Rattle.table.proofs.Rules.{numbers_of, is_proper}
 use Rattle.table.specs.declared.Session.{Session}
 use Rattle.table.proofs.Places.{failed, held, Counting, counting_start, counting_by, counting_end}
-use Rattle.formed.specs.Standings.{latest, oldest, Clear}
+use Rattle.formed.specs.Standings.{is_vacant, latest, oldest}
 
 -- a session is free, or on a stream that is live by the frontends at the streams' IDs
 abbrev pub is_homed : List ℕ → Session → Bool
@@ -116,56 +117,17 @@ oldest_most (s ∷ l) = by (is_free s) (oldest_most l)
     by true h = h
     by false h = omega arith
 
--- a free place is blank exactly if it is the one where nobody is
-none_blank : (s : Session) → s ≡ no_session → is_blank s ≡ true
-unfolding is_blank
-none_blank s e = rw e
+-- a place among the first of some
+pub in_front : (l : List Session) (end i : ℕ) → i < length (take end l) → get_or (take end l) i no_session ≡ get_or l i no_session
+in_front l end i h = get_or-take end l i no_session (omega (arith, length-take end l))
 
-blank_none : (s : Session) → s.number ≡ 0 → is_blank s ≡ true → s ≡ no_session
-unfolding is_blank
-blank_none s n e =
-    let a = and_both _ (eqb s.playing 0) e in
-    let b = and_both _ (eqb s.owner 0) a.0 in
-    let c = and_both _ (eqb s.stream 0) b.0 in
-    let d = and_both _ (eqb s.port 0) c.0 in
-    let f = and_both (eqb s.address 0) (eqb s.last 0) d.0 in
-    let e0 : s.address ≡ 0 = eqb-true _ _ f.0 in
-    let e1 : s.last ≡ 0 = eqb-true _ _ f.1 in
-    let e2 : s.port ≡ 0 = eqb-true _ _ d.1 in
-    let e3 : s.stream ≡ 0 = eqb-true _ _ c.1 in
-    let e4 : s.owner ≡ 0 = eqb-true _ _ b.1 in
-    let e5 : s.playing ≡ 0 = eqb-true _ _ a.1 in
-    let w : ◌≡◌ {A = Session} (record { number = s.number; address = s.address; last = s.last; port = s.port; stream = s.stream; owner = s.owner; playing = s.playing }) no_session = cc in
-    w
-
--- what comparing a place with that one says
+-- what comparing a place with one where nobody is comes to
 abbrev alike : Session → Bool
 alike s = eqb s.number 0 && (eqb s.address 0 && (eqb s.last 0 && (eqb s.port 0 && (eqb s.stream 0 && (eqb s.owner 0 && eqb s.playing 0)))))
 
-pub differs : (s : Session) → true ≡ not (alike s) → s ≡ no_session → ⊥
-differs s e z = never refl (rw z at e)
-
-pub is_alike : (s : Session) → false ≡ not (alike s) → s ≡ no_session
-is_alike s e =
-    let a = and_both (eqb s.number 0) _ (not-false (alike s) (sym e)) in
-    let b = and_both (eqb s.address 0) _ a.1 in
-    let c = and_both (eqb s.last 0) _ b.1 in
-    let d = and_both (eqb s.port 0) _ c.1 in
-    let f = and_both (eqb s.stream 0) _ d.1 in
-    let g = and_both (eqb s.owner 0) (eqb s.playing 0) f.1 in
-    let e0 : s.number ≡ 0 = eqb-true _ _ a.0 in
-    let e1 : s.address ≡ 0 = eqb-true _ _ b.0 in
-    let e2 : s.last ≡ 0 = eqb-true _ _ c.0 in
-    let e3 : s.port ≡ 0 = eqb-true _ _ d.0 in
-    let e4 : s.stream ≡ 0 = eqb-true _ _ f.0 in
-    let e5 : s.owner ≡ 0 = eqb-true _ _ g.0 in
-    let e6 : s.playing ≡ 0 = eqb-true _ _ g.1 in
-    let w : ◌≡◌ {A = Session} (record { number = s.number; address = s.address; last = s.last; port = s.port; stream = s.stream; owner = s.owner; playing = s.playing }) no_session = cc in
-    w
-
-not_blank : (s : Session) → s.number ≡ 0 → (s ≡ no_session → ⊥) → Case (is_blank s) → false ≡ is_blank s
-not_blank s z h (is y) = absurd (h (blank_none s z y))
-not_blank s z h (isnt n) = sym n
+pub alike_vacant : (s : Session) → alike s ≡ is_vacant s
+unfolding is_blank
+alike_vacant s = simp and_assoc
 
 module _ (clock bytes size : ℕ) (feeds : List ℕ) (l : List Session) where
   -- what no such sessions have
@@ -228,15 +190,18 @@ module _ {clock : ℕ} {feeds : List ℕ} {l : List Session} {i n old : ℕ} {nu
     within = omega (arith, w.places)
 
     -- a free place that is not empty
-    pub seating_not_empty : (bytes size : ℕ) → (get_or l i no_session).number ≡ 0 → (get_or l i no_session ≡ no_session → ⊥) → None ≡ seats_of clock bytes size feeds l
-    seating_not_empty bytes size z h =
+    pub seating_not_empty : (bytes size : ℕ) → (get_or l i no_session).number ≡ 0 → is_vacant (get_or l i no_session) ≡ false → None ≡ seats_of clock bytes size feeds l
+    seating_not_empty bytes size z e =
         let s = get_or l i no_session in
-        let e : false ≡ is_blank s = not_blank s z h (case (is_blank s)) in
-        ill clock bytes size feeds l (λ d f p. never p (sym (passing_not (is_proper clock) no_session w.proper within (rw (eq-eqb s.number 0 z) e) refl)))
+        let b : is_blank s ≡ false = rw (eq-eqb s.number 0 z) at e in
+        ill clock bytes size feeds l (λ d f p. never p (sym (passing_not (is_proper clock) no_session w.proper within (rw (eq-eqb s.number 0 z, b)) refl)))
 
-    module _ (e : get_or l i no_session ≡ no_session) where
+    module _ (e : is_vacant (get_or l i no_session) ≡ true) where
       free : has_number 0 (get_or l i no_session) ≡ true
-      free = rw e
+      free = (and_both (is_free (get_or l i no_session)) (is_blank (get_or l i no_session)) e).0
+
+      blank : is_blank (get_or l i no_session) ≡ true
+      blank = (and_both (is_free (get_or l i no_session)) (is_blank (get_or l i no_session)) e).1
 
       pub seating_free : Seating clock feeds l (i + 1) numbers owners n old
       seating_free =
@@ -245,11 +210,11 @@ module _ {clock : ℕ} {feeds : List ℕ} {l : List Session} {i n old : ℕ} {nu
             room = w.room;
             ids = w.ids;
             most = omega (arith, w.most);
-            proper = passing_more (is_proper clock) no_session w.proper within refl (rw free (none_blank (get_or l i no_session) e));
+            proper = passing_more (is_proper clock) no_session w.proper within refl (rw free blank);
             homed = passing_more (is_homed feeds) no_session w.homed within refl (rw free);
             opened = counting_by is_open no_session w.opened within (rw free (omega arith));
             owned = λ id k. counting_by (owns id) no_session (w.owned id k) within (rw free (omega arith));
-            having = λ m k. counting_by (has_number m) no_session (w.having m k) within (rw (ne_eqb (get_or l i no_session).number m (λ q. k (sym q ∙ ap (λ (s : Session). s.number) e))) (omega arith));
+            having = λ m k. counting_by (has_number m) no_session (w.having m k) within (rw (ne_eqb (get_or l i no_session).number m (λ q. k (sym q ∙ eqb-true (get_or l i no_session).number 0 free))) (omega arith));
             once = w.once;
             behind = w.behind;
             young = w.young;
@@ -331,18 +296,27 @@ module _ {clock : ℕ} {feeds : List ℕ} {l : List Session} {i n old : ℕ} {nu
                 omega (arith, bit_yes x)
 
 -- where nobody is from place i on, the walk may end there
-rest : {clock : ℕ} {feeds : List ℕ} {l : List Session} {numbers owners : List ℕ} {n old end : ℕ} → Clear l end → (k i : ℕ) → i + k ≡ 32 → end ≤ i → Seating clock feeds l i numbers owners n old → Seating clock feeds l 32 numbers owners n old
-rest {clock} {feeds} {l} {numbers} {owners} {n} {old} c zero i e h w = let z : i ≡ 32 = omega arith in subst (λ j. Seating clock feeds l j numbers owners n old) z w
-rest {clock} c (suc k) i e h w =
-    let t : i < 32 = omega arith in
-    rest c k (i + 1) (omega arith) (omega arith) (seating_free w t (c.nobody i h t))
+rest_vacant : (l : List Session) (last i : ℕ) → last ≤ i → all is_vacant (drop last l) ≡ true → all is_vacant (drop i l) ≡ true
+rest_vacant l zero zero h v = v
+rest_vacant [] zero (suc i) h v = refl
+rest_vacant (s ∷ l) zero (suc i) h v = rest_vacant l zero i (omega arith) (and_both (is_vacant s) (all is_vacant l) v).1
+rest_vacant l (suc last) zero h v = absurd (omega arith)
+rest_vacant [] (suc last) (suc i) h v = refl
+rest_vacant (s ∷ l) (suc last) (suc i) h v = rest_vacant l last i (omega arith) v
 
-module _ {clock : ℕ} {feeds : List ℕ} {l : List Session} {i n old last : ℕ} {numbers owners : List ℕ} (c : Clear l last) (w : Seating clock feeds l i numbers owners n old) (h : last ≤ i) where
+rest : {clock : ℕ} {feeds : List ℕ} {l : List Session} {numbers owners : List ℕ} {n old : ℕ} (k i : ℕ) → i + k ≡ 32 → all is_vacant (drop i l) ≡ true → Seating clock feeds l i numbers owners n old → Seating clock feeds l 32 numbers owners n old
+rest {clock} {feeds} {l} {numbers} {owners} {n} {old} zero i e v w = let z : i ≡ 32 = omega arith in subst (λ j. Seating clock feeds l j numbers owners n old) z w
+rest {l = l} (suc k) i e v w =
+    let t : i < 32 = omega arith in
+    let b = and_both (is_vacant (get_or l i no_session)) (all is_vacant (drop (i + 1) l)) (sym (turn (all is_vacant) l i no_session (omega (arith, w.places))) ∙ v) in
+    rest k (i + 1) (omega arith) b.1 (seating_free w t b.0)
+
+module _ {clock : ℕ} {feeds : List ℕ} {l : List Session} {i n old : ℕ} {numbers owners : List ℕ} (last : ℕ) (vacant : all is_vacant (drop last l) ≡ true) (w : Seating clock feeds l i numbers owners n old) (h : last ≤ i) where
   all_places : Seating clock feeds l 32 numbers owners n old
-  all_places = rest c (32 - i) i (omega (arith, w.opened.inside, c.places)) h w
+  all_places = rest (32 - i) i (omega (arith, w.opened.inside, w.places)) (rest_vacant l last i h vacant) w
 
   past : length l ≤ 32
-  past = omega (arith, c.places)
+  past = omega (arith, w.places)
 
   pub seated_most : n ≤ 32
   seated_most = omega (arith, all_places.most)

@@ -12,7 +12,7 @@ ghost use Rattle.table.specs.Table.{count, are_distinct, is_among, is_free, is_o
 ghost use Rattle.table.specs.Reach.{has_source, set_of};
 ghost use Rattle.table.specs.Formed.{is_placed, are_owned, is_seated, is_blank};
 ghost use Rattle.table.specs.declared.Session.{Session};
-ghost use Rattle.formed.specs.Standings.{oldest, standing_of, Clear};
+ghost use Rattle.formed.specs.Standings.{is_vacant, oldest, standing_of};
 
 use stream::Stream;
 use table::{SatBox, Session, Settings};
@@ -40,19 +40,19 @@ fn is_fitting(held: u32, size: u32, opens: usize) -> bool
     (held % SatBox::RECORD == 0) & (u64::from(held) + closings <= u64::from(size))
 }
 
-// Whether the words of a place are 0; its bytes are counted apart. (Of a place that is compared with one where nobody is, the compiler tests every
-// field by itself, and not eight places at a time: docs/PERFORMANCE.md.)
-fn is_vacant(s: Session) -> bool
-    ensures { result ≡ (eqb s.number 0 && eqb s.address 0 && eqb s.last 0 && eqb s.port 0) }
+// A place's bytes as one number.
+fn bytes_of(s: Session) -> u32
+    ensures { result ≡ s.stream + s.owner * 256 + s.playing * 65536 }
 {
-    (s.number == 0) & (s.address == 0) & (s.last == 0) & (s.port == 0)
+    u32::from(s.stream) + u32::from(s.owner) * 256 + u32::from(s.playing) * 65536
 }
 
-// A place's bytes as one number: of some places they are added up, and all are 0 exactly if the sum is.
-fn bytes_of(s: Session) -> u64
-    ensures { (result ≡ s.stream + s.owner * 256 + s.playing * 65536) × (result < 4294967296) }
+// Whether nobody is at a place, and all of it is 0. It has no way out inside and takes the bytes as one number, so that many places are looked at at
+// once (compared with one where nobody is, each field is looked at by itself: some 100 instructions more for eight places).
+fn is_vacant(s: Session) -> bool
+    ensures { result ≡ is_vacant s }
 {
-    u64::from(s.stream) + u64::from(s.owner) * 256 + u64::from(s.playing) * 65536
+    (s.number == 0) & (s.address == 0) & (s.last == 0) & (s.port == 0) & (bytes_of(s) == 0)
 }
 
 // Whether a number is among the first of some that have zeros behind them. Most tables have at most eight sessions.
@@ -124,28 +124,28 @@ fn are_sound(streams: &[Stream; 8], settings: Settings, feeds: &mut [u32; 9]) ->
     true
 }
 
-// How many places are looked at: nobody is from there on. The last ones are passed over eight at a time as long as nobody is there.
-fn end_of(sessions: &[Session; 32]) -> usize
-    ensures { Clear sessions.now result }
+// Whether nobody is at some places.
+fn are_vacant(sessions: &[Session]) -> bool
+    ensures { result ≡ all is_vacant sessions.now }
 {
-    // A `while`: where it stops is not known before.
+    let mut vacant = true;
+    for s in sessions {
+        vacant &= is_vacant(*s);
+    }
+    vacant
+}
+
+// How many places are looked at: nobody is behind them. The last ones are passed over eight at a time as long as nobody is there (one by one, by
+// `rposition`, takes 481 instructions more where nobody is).
+fn end_of(sessions: &[Session; 32]) -> usize
+    ensures { (result ≤ 32) × (all is_vacant (drop result sessions.now) ≡ true) }
+{
     let mut end = SatBox::SESSIONS;
-    while 8 <= end {
-        let from = end - 8;
-        if sessions[from].number != 0 {
+    for eight in sessions.rchunks_exact(8) {
+        if !are_vacant(eight) {
             break;
         }
-        let mut vacant = true;
-        let mut bytes = 0u64;
-        for k in 0..8 {
-            let s = sessions[from + k];
-            vacant = vacant & is_vacant(s);
-            bytes += bytes_of(s);
-        }
-        if !(vacant & (bytes == 0)) {
-            break;
-        }
-        end = from;
+        end -= 8;
     }
     end
 }
