@@ -19,7 +19,7 @@ pub fn place_of(sessions: &[Session; 32], n: u32) -> Option<usize>
     sessions.iter().position(|s| s.number == n)
 }
 
-// The lowest free place, below 32.
+// The lowest free place, below 32. (`sized`: of an array behind a reference a caller knows the length only where it reads it.)
 pub fn lowest_place(sessions: &[Session; 32]) -> Option<usize>
     ensures first { result ≡ unless 32 (lowest_place sessions.now) }
     ensures sized { length sessions.now ≡ 32 }
