@@ -1,20 +1,16 @@
 -- A query merged step by step: its values, its PIDs, and what becomes of the stream. Assumes nothing.
-use mathlib.Core.Path.{◌≡◌, refl, ap, ◌∙◌, sym, subst}
+use mathlib.Core.Path.{◌≡◌, ap, ◌∙◌, sym}
 use mathlib.Core.Bool.{Bool, true, false, not, cond}
 use mathlib.Core.List.{List, []}
-use Prim.Native.Nat.{ℕ, ◌≤◌, ◌<◌, min}
+use Prim.Native.Nat.{ℕ, ◌≤◌, ◌<◌}
 use Rattle.std.specs.Prelude.{Result, Ok, Err}
 use native.Mathlib.Omega.{arith}
-use native.Mathlib.Decide.{dec_lt}
-use lib.Dec.{eqb}
-use lib.ListN.{length, take, get_or}
-use lib.Seq.{take_all, length-take-le}
+use lib.ListN.{length, get_or}
 use borrow.Author.Tests.{eq-eqb, ne_eqb, lt-ltb, le-ltb}
 use mir.Val.{bool_byte}
-use Rattle.scan.proofs.Bools.{by_test, by_cases}
 use Rattle.stream.specs.Values.{merged, go_together}
-use Rattle.stream.specs.Pids.{added, removed, numbers_in, obeyed, Choice, replaced, edited, chosen, choice_of}
-use Rattle.stream.specs.Arrays.{with_text, laid_out, added_all, Chooses}
+use Rattle.stream.specs.Pids.{added, removed, numbers_in, replaced, edited, chosen, choice_of}
+use Rattle.stream.specs.Arrays.{laid_out, added_all, Chooses}
 use Rattle.stream.specs.Streams.{changed, merge_of}
 use Rattle.stream.specs.declared.Values.{Values}
 use Rattle.stream.specs.declared.Stream.{Stream}
