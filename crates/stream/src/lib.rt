@@ -10,7 +10,7 @@ ghost use Rattle.stream.specs.Streams.{blank, are_zero, is_sound, merge_of};
 
 pub use attributes::are_complete;
 use attributes::{are_in_range, go_together, merged};
-use pids::{are_zero, choose, is_padded};
+use pids::{choose, is_padded};
 
 // Document 01's attributes that a stream keeps, as `tuning` codes them: 0 where one is missing.
 #[repr(C)]
@@ -87,7 +87,8 @@ impl Stream {
 pub fn is_unused(m: Stream) -> bool
     ensures { result ≡ are_zero m }
 {
-    (m.values == Values::NONE) & ((m.count == 0) & (m.all == 0) & are_zero(&m.pids, 0))
+    let aside = Stream { frontend: 0, ..m };
+    aside == Stream::NONE
 }
 
 // Whether a place is one that a table may have on a box with so many frontends.

@@ -20,7 +20,7 @@ fn are_zeros(pids: &[u16]) -> bool
 }
 
 // Whether an array is all zeros from a place on. Most lists are short: behind the eighth place it is then known how many are looked at.
-pub(crate) fn are_zero(pids: &[u16; 32], from: usize) -> bool
+fn are_zero(pids: &[u16; 32], from: usize) -> bool
     requires { from ≤ 32 }
     ensures { result ≡ all is_zero (drop from pids.now) }
 {
