@@ -195,6 +195,9 @@ fn seats_of(
 pub fn standing_of(t: &SatBox) -> Option<u32>
     ensures { result ≡ standing_of t.now }
 {
+    if !table::are_settings(t.settings) {
+        return None;
+    }
     let mut feeds = [0u32; 9];
     if !are_sound(&t.streams, t.settings, &mut feeds) {
         return None;
@@ -208,7 +211,7 @@ pub fn standing_of(t: &SatBox) -> Option<u32>
         &feeds,
         &mut owners,
     )?;
-    if table::are_settings(t.settings) & table::are_distinct(&feeds) & are_owned(&feeds, &owners) {
+    if table::are_distinct(&feeds) & are_owned(&feeds, &owners) {
         return Some(oldest);
     }
     None
