@@ -5,7 +5,8 @@ ghost use Rattle.stream.specs.Arrays.{is_in_range};
 
 use crate::Values;
 
-// Whether an attribute, by its place in document 01's table, may have this code in a stream.
+// Whether an attribute, by its place in document 01's table, may have this code in a stream: a match, which is the form that document 01 names for
+// value ranges.
 fn is_in_range(attribute: usize, code: u32) -> bool
     ensures { result ≡ is_in_range attribute code }
 {
