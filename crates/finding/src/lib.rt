@@ -19,7 +19,7 @@ pub fn place_of(sessions: &[Session; 32], n: u32) -> Option<usize>
     sessions.iter().position(|s| s.number == n)
 }
 
-// The lowest free place, below 32.
+// The lowest free place, below 32. (`sized`: of an array behind a reference a caller knows the length only where it reads it.)
 pub fn lowest_place(sessions: &[Session; 32]) -> Option<usize>
     ensures first { result ≡ unless 32 (lowest_place sessions.now) }
     ensures sized { length sessions.now ≡ 32 }
@@ -47,14 +47,14 @@ pub fn lowest_id(streams: &[Stream; 8]) -> Option<u8>
 pub fn owns(s: Session, id: u32) -> bool
     ensures { result ≡ owns id s }
 {
-    (!(s.number == 0) & (s.stream as u32 == id)) & !(s.owner == 0)
+    s.number != 0 && u32::from(s.stream) == id && s.owner != 0
 }
 
 // Whether a stream holds the frontend.
 pub fn is_held(streams: &[Stream; 8], f: u32) -> bool
     ensures { result ≡ is_held f streams.now }
 {
-    streams.iter().any(|m| m.frontend as u32 == f)
+    streams.iter().any(|m| u32::from(m.frontend) == f)
 }
 
 // The set of each frontend by its place, empty where a stream holds the frontend.
@@ -64,7 +64,7 @@ fn free_sets(streams: &[Stream; 8], settings: Settings) -> [u8; 8]
     let mut sets = settings.reach;
     for m in streams {
         let f = m.frontend as usize;
-        if (1 <= f) & (f <= SatBox::STREAMS) {
+        if (1..=SatBox::STREAMS).contains(&f) {
             sets[f - 1] = 0;
         }
     }
@@ -82,7 +82,7 @@ pub fn choice(t: &SatBox, source: u32) -> Option<u8>
     for f in (1..=8).rev() {
         let set = sets[f as usize - 1];
         let size = table::size_of(set);
-        if ((f as u16 <= last) & table::has_source(set, source))
+        if ((u16::from(f) <= last) & table::has_source(set, source))
             & (best.is_none() | (size <= least))
         {
             best = Some(f);

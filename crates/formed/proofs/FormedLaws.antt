@@ -1,7 +1,7 @@
 -- A table is well formed as the walk over its streams and the one over its sessions find it. Assumes nothing.
 use Rattle.std.specs.Prelude.{Option, Some, None, is_some}
 use mathlib.Core.Path.{◌≡◌, refl, sym, ◌∙◌, ap}
-use mathlib.Core.Bool.{Bool, true, false, not, ◌&&◌, ◌||◌, cond, and-true, and-false}
+use mathlib.Core.Bool.{Bool, true, false, not, ◌&&◌, ◌||◌, cond}
 use mathlib.Core.List.{List, [], ◌∷◌}
 use Prim.Native.Nat.{ℕ}
 use lib.Dec.{eqb}
@@ -25,10 +25,11 @@ well_is : (b : Bool) (n : ℕ) → is_some (cond b (Some n) None) ≡ b
 well_is true n = refl
 well_is false n = refl
 
-regroup : (a b c : Bool) → a && (c && (b && true)) ≡ (a && b) && c
-regroup false b c = refl
-regroup true true c = and-true c
-regroup true false c = and-false c
+regroup : (b c : Bool) → c && (b && true) ≡ b && c
+regroup true true = refl
+regroup true false = refl
+regroup false true = refl
+regroup false false = refl
 
 -- what a look at its streams and one at its sessions find of a table
 module _ (t : SatBox) where
@@ -60,6 +61,13 @@ module _ (t : SatBox) where
       by (is y) = absurd (h y)
       by (isnt n) = rw n
 
+  settled : well_formed t ≡ true → are_settings t.settings ≡ true
+  unfolding well_formed
+  settled y = (and_both (are_settings t.settings) _ y).0
+
+  pub unsettled : {r : Bool} → r ≡ are_settings t.settings → not r ≡ true → None ≡ standing_of t
+  unsettled e q = ill (λ y. never (settled y) (failed e q))
+
   pub unsound : {r : Bool} → r ≡ all (is_placed t.settings) t.streams → not r ≡ true → None ≡ standing_of t
   unsound e q = ill (λ y. never (parts y).0 (failed e q))
 
@@ -70,23 +78,23 @@ module _ (t : SatBox) where
     pub unseated : s ≡ None → None ≡ standing_of t
     unseated h = ill (λ y. never ((parts y).1 feeds e) (sym told ∙ ap is_some h))
 
-    module _ {n : ℕ} {u a b c : Bool} (h : s ≡ Some n) (z : u ≡ all (is_placed t.settings) t.streams) (k : not u ≡ false) (f : a ≡ are_settings t.settings) (g : b ≡ are_distinct feeds) (o : c ≡ are_owned t.sessions 1 t.streams) where
+    module _ {n : ℕ} {u a b c : Bool} (h : s ≡ Some n) (z : u ≡ all (is_placed t.settings) t.streams) (k : not u ≡ false) (f : a ≡ are_settings t.settings) (m : not a ≡ false) (g : b ≡ are_distinct feeds) (o : c ≡ are_owned t.sessions 1 t.streams) where
       seated : are_seated t.clock t.held t.settings.size feeds t.sessions ≡ true
       seated = sym told ∙ ap is_some h
 
-      decides : well_formed t ≡ (a && b) && c
+      decides : well_formed t ≡ b && c
       unfolding well_formed
       decides =
           let d = and_both (are_distinct (numbers_of t.sessions)) _ seated in
           let p = and_both (all (is_homed feeds) t.sessions) _ d.1 in
           let j = and_both (all (is_proper t.clock) t.sessions) _ p.1 in
-          rw (sym f, d.0, sym (homed_housed e) ∙ p.0, sym o, sym (g ∙ ap are_distinct e), held z k, j.0, j.1) (regroup a b c)
+          rw (held f m, d.0, sym (homed_housed e) ∙ p.0, sym o, sym (g ∙ ap are_distinct e), held z k, j.0, j.1) (regroup b c)
 
-      pub stands : (a && b) && c ≡ true → Some n ≡ standing_of t
+      pub stands : b && c ≡ true → Some n ≡ standing_of t
       unfolding standing_of
       stands y = sym h ∙ (x ∙ rw (seated, decides ∙ y))
 
-      pub falls : (a && b) && c ≡ false → None ≡ standing_of t
+      pub falls : b && c ≡ false → None ≡ standing_of t
       unfolding standing_of
       falls n = rw (decides ∙ n)
 

@@ -2,14 +2,15 @@
 -- met what no sessions of a well-formed table have. Assumes nothing.
 use Rattle.std.specs.Prelude.{Option, Some, None}
 use mathlib.Core.Path.{◌≡◌, refl, sym, ◌∙◌, ap, subst}
-use mathlib.Core.Bool.{Bool, true, false, not, ◌&&◌, ◌||◌, cond, and-false, or_assoc}
+use mathlib.Core.Bool.{Bool, true, false, not, ◌&&◌, ◌||◌, cond, and-false, and_assoc, or_assoc}
 use mathlib.Core.List.{List, [], ◌∷◌}
 use Prim.Native.Nat.{ℕ, zero, suc, ◌+◌, ◌*◌, ◌-◌, ◌%◌, ◌≤◌, ◌<◌, min}
 use native.Mathlib.Numerals.{add-one}
 use native.Mathlib.Decide.{dec_lt}
 use native.Mathlib.Omega.{arith}
 use lib.Dec.{eqb, leb}
-use lib.ListN.{length, get_or, set, take, drop, replicate, length-set, get_or-replicate, get_or-eq_default}
+use lib.ListN.{length, get_or, set, take, drop, replicate, length-set, length-take, get_or-replicate, get_or-eq_default}
+use Rattle.std.proofs.lemmas.List.{get_or-take}
 use lib.Seq.{get_or-set_same, get_or-set_other}
 use borrow.Author.Tests.{eq-eqb, ne_eqb, eqb-true, eqb-false, leb-true, not-true}
 use Rattle.scan.specs.Lists.{is_between, all}
@@ -22,8 +23,7 @@ use Rattle.table.proofs.Counts.{bit, bit_no, bit_yes, count_none, none_count, co
 use Rattle.table.proofs.Rules.{numbers_of, is_proper}
 use Rattle.table.specs.declared.Session.{Session}
 use Rattle.table.proofs.Places.{failed, held, Counting, counting_start, counting_by, counting_end}
-use Rattle.formed.specs.Standings.{latest, oldest}
-use Rattle.formed.proofs.Vacant.{Clear}
+use Rattle.formed.specs.Standings.{is_vacant, latest, oldest}
 
 -- a session is free, or on a stream that is live by the frontends at the streams' IDs
 abbrev pub is_homed : List ℕ → Session → Bool
@@ -117,6 +117,18 @@ oldest_most (s ∷ l) = by (is_free s) (oldest_most l)
     by true h = h
     by false h = omega arith
 
+-- a place among the first of some
+pub in_front : (l : List Session) (end i : ℕ) → i < length (take end l) → get_or (take end l) i no_session ≡ get_or l i no_session
+in_front l end i h = get_or-take end l i no_session (omega (arith, length-take end l))
+
+-- what comparing a place with one where nobody is comes to
+abbrev alike : Session → Bool
+alike s = eqb s.number 0 && (eqb s.address 0 && (eqb s.last 0 && (eqb s.port 0 && (eqb s.stream 0 && (eqb s.owner 0 && eqb s.playing 0)))))
+
+pub alike_vacant : (s : Session) → alike s ≡ is_vacant s
+unfolding is_blank
+alike_vacant s = simp and_assoc
+
 module _ (clock bytes size : ℕ) (feeds : List ℕ) (l : List Session) where
   -- what no such sessions have
   pub ill : ((are_distinct (numbers_of l) ≡ true) → (all (is_homed feeds) l ≡ true) → (all (is_proper clock) l ≡ true) → ⊥) → None ≡ seats_of clock bytes size feeds l
@@ -170,33 +182,39 @@ module _ {clock : ℕ} {feeds : List ℕ} {l : List Session} {i n old : ℕ} {nu
   seating_most id h = omega (arith, (w.owned id h).most, (w.owned id h).inside, w.places)
 
   -- what admitting the next session asks
-  pub seating_asks : (s : Session) → length feeds ≡ 9 → (s.number ≡ 0 → ⊥) → (length feeds ≡ 9) × (length numbers ≡ 32) × (eqb s.number 0 ≡ false) × (n ≤ 32) × (all is_zero (drop n numbers) ≡ true)
-  seating_asks s e k = (e, w.room, ne_eqb s.number 0 k, omega (arith, w.most, w.opened.inside, w.places), w.behind)
+  pub seating_asks : (s : Session) → (s.number ≡ 0 → ⊥) → (eqb s.number 0 ≡ false) × (n ≤ 32) × (all is_zero (drop n numbers) ≡ true)
+  seating_asks s k = (ne_eqb s.number 0 k, omega (arith, w.most, w.opened.inside, w.places), w.behind)
 
   module _ (h : i < 32) where
     within : i < length l
     within = omega (arith, w.places)
 
-    module _ (z : (get_or l i no_session).number ≡ 0) {r : Bool} (e : r ≡ is_blank (get_or l i no_session)) where
+    -- a free place that is not empty
+    pub seating_not_empty : (bytes size : ℕ) → (get_or l i no_session).number ≡ 0 → is_vacant (get_or l i no_session) ≡ false → None ≡ seats_of clock bytes size feeds l
+    seating_not_empty bytes size z e =
+        let s = get_or l i no_session in
+        let b : is_blank s ≡ false = rw (eq-eqb s.number 0 z) at e in
+        ill clock bytes size feeds l (λ d f p. never p (sym (passing_not (is_proper clock) no_session w.proper within (rw (eq-eqb s.number 0 z, b)) refl)))
+
+    module _ (e : is_vacant (get_or l i no_session) ≡ true) where
       free : has_number 0 (get_or l i no_session) ≡ true
-      free = eq-eqb (get_or l i no_session).number 0 z
+      free = (and_both (is_free (get_or l i no_session)) (is_blank (get_or l i no_session)) e).0
 
-      -- a free place that is not empty
-      pub seating_not_empty : (bytes size : ℕ) → not r ≡ true → None ≡ seats_of clock bytes size feeds l
-      seating_not_empty bytes size q = ill clock bytes size feeds l (λ d f p. never p (sym (passing_not (is_proper clock) no_session w.proper within (rw free e) (not-true r q))))
+      blank : is_blank (get_or l i no_session) ≡ true
+      blank = (and_both (is_free (get_or l i no_session)) (is_blank (get_or l i no_session)) e).1
 
-      pub seating_free : not r ≡ false → Seating clock feeds l (i + 1) numbers owners n old
-      seating_free q =
+      pub seating_free : Seating clock feeds l (i + 1) numbers owners n old
+      seating_free =
           record {
             places = w.places;
             room = w.room;
             ids = w.ids;
             most = omega (arith, w.most);
-            proper = passing_more (is_proper clock) no_session w.proper within refl (rw free (held e q));
+            proper = passing_more (is_proper clock) no_session w.proper within refl (rw free blank);
             homed = passing_more (is_homed feeds) no_session w.homed within refl (rw free);
             opened = counting_by is_open no_session w.opened within (rw free (omega arith));
             owned = λ id k. counting_by (owns id) no_session (w.owned id k) within (rw free (omega arith));
-            having = λ m k. counting_by (has_number m) no_session (w.having m k) within (rw (ne_eqb (get_or l i no_session).number m (λ q. k (sym q ∙ z))) (omega arith));
+            having = λ m k. counting_by (has_number m) no_session (w.having m k) within (rw (ne_eqb (get_or l i no_session).number m (λ q. k (sym q ∙ eqb-true (get_or l i no_session).number 0 free))) (omega arith));
             once = w.once;
             behind = w.behind;
             young = w.young;
@@ -239,7 +257,7 @@ module _ {clock : ℕ} {feeds : List ℕ} {l : List Session} {i n old : ℕ} {nu
         pub seating_owner : (get_or l i no_session).owner ≤ 1
         seating_owner = seated_owner clock (get_or l i no_session) seated
 
-        pub seating_more : {m : ℕ} → length feeds ≡ 9 → m ≡ min (get_or l i no_session).last old → Seating clock feeds l (i + 1) (set numbers n (get_or l i no_session).number) (set owners (get_or l i no_session).stream (get_or owners (get_or l i no_session).stream 0 + (get_or l i no_session).owner)) (n + 1) m
+        pub seating_more : {m : ℕ} → length feeds ≡ 9 → m ≡ min old (get_or l i no_session).last → Seating clock feeds l (i + 1) (set numbers n (get_or l i no_session).number) (set owners (get_or l i no_session).stream (get_or owners (get_or l i no_session).stream 0 + (get_or l i no_session).owner)) (n + 1) m
         seating_more {m} size since =
             let v = (get_or l i no_session).number in
             let new : count (is_number v) (take n numbers) ≡ 0 = count_none (is_number v) (take n numbers) (not-true _ home.1) in
@@ -278,19 +296,27 @@ module _ {clock : ℕ} {feeds : List ℕ} {l : List Session} {i n old : ℕ} {nu
                 omega (arith, bit_yes x)
 
 -- where nobody is from place i on, the walk may end there
-rest : {clock : ℕ} {feeds : List ℕ} {l : List Session} {numbers owners : List ℕ} {n old end : ℕ} → Clear l end → (k i : ℕ) → i + k ≡ 32 → end ≤ i → Seating clock feeds l i numbers owners n old → Seating clock feeds l 32 numbers owners n old
-rest {clock} {feeds} {l} {numbers} {owners} {n} {old} c zero i e h w = let z : i ≡ 32 = omega arith in subst (λ j. Seating clock feeds l j numbers owners n old) z w
-rest {clock} c (suc k) i e h w =
-    let t : i < 32 = omega arith in
-    let u = c.nobody i h t in
-    rest c k (i + 1) (omega arith) (omega arith) (seating_free w t u.number (sym u.blank) refl)
+rest_vacant : (l : List Session) (last i : ℕ) → last ≤ i → all is_vacant (drop last l) ≡ true → all is_vacant (drop i l) ≡ true
+rest_vacant l zero zero h v = v
+rest_vacant [] zero (suc i) h v = refl
+rest_vacant (s ∷ l) zero (suc i) h v = rest_vacant l zero i (omega arith) (and_both (is_vacant s) (all is_vacant l) v).1
+rest_vacant l (suc last) zero h v = absurd (omega arith)
+rest_vacant [] (suc last) (suc i) h v = refl
+rest_vacant (s ∷ l) (suc last) (suc i) h v = rest_vacant l last i (omega arith) v
 
-module _ {clock : ℕ} {feeds : List ℕ} {l : List Session} {i n old last : ℕ} {numbers owners : List ℕ} (c : Clear l last) (w : Seating clock feeds l i numbers owners n old) (h : last ≤ i) where
+rest : {clock : ℕ} {feeds : List ℕ} {l : List Session} {numbers owners : List ℕ} {n old : ℕ} (k i : ℕ) → i + k ≡ 32 → all is_vacant (drop i l) ≡ true → Seating clock feeds l i numbers owners n old → Seating clock feeds l 32 numbers owners n old
+rest {clock} {feeds} {l} {numbers} {owners} {n} {old} zero i e v w = let z : i ≡ 32 = omega arith in subst (λ j. Seating clock feeds l j numbers owners n old) z w
+rest {l = l} (suc k) i e v w =
+    let t : i < 32 = omega arith in
+    let b = and_both (is_vacant (get_or l i no_session)) (all is_vacant (drop (i + 1) l)) (sym (turn (all is_vacant) l i no_session (omega (arith, w.places))) ∙ v) in
+    rest k (i + 1) (omega arith) b.1 (seating_free w t b.0)
+
+module _ {clock : ℕ} {feeds : List ℕ} {l : List Session} {i n old : ℕ} {numbers owners : List ℕ} (last : ℕ) (vacant : all is_vacant (drop last l) ≡ true) (w : Seating clock feeds l i numbers owners n old) (h : last ≤ i) where
   all_places : Seating clock feeds l 32 numbers owners n old
-  all_places = rest c (32 - i) i (omega (arith, w.opened.inside, c.places)) h w
+  all_places = rest (32 - i) i (omega (arith, w.opened.inside, w.places)) (rest_vacant l last i h vacant) w
 
   past : length l ≤ 32
-  past = omega (arith, c.places)
+  past = omega (arith, w.places)
 
   pub seated_most : n ≤ 32
   seated_most = omega (arith, all_places.most)

@@ -1,74 +1,78 @@
 -- The last places of a table's sessions, where nobody is: they are passed over eight at a time. Assumes nothing.
-use mathlib.Core.Path.{◌≡◌, sym, ◌∙◌}
-use mathlib.Core.Bool.{Bool, true, false, not, ◌&&◌}
-use mathlib.Core.List.{List}
-use Prim.Native.Nat.{ℕ, ◌+◌, ◌*◌, ◌≤◌, ◌<◌}
-use native.Mathlib.Decide.{dec_lt}
+use mathlib.Core.Path.{◌≡◌, refl, sym, ◌∙◌, ap}
+use mathlib.Core.Bool.{Bool, true, ◌&&◌, and-true, and_assoc}
+use mathlib.Core.List.{List, [], ◌∷◌, ◌++◌, append_assoc, append-nil}
+use Prim.Native.Nat.{ℕ, ◌+◌, ◌*◌, ◌-◌, ◌%◌, ◌≤◌, ◌<◌}
 use native.Mathlib.Omega.{arith}
 use lib.Dec.{eqb}
-use lib.ListN.{length, get_or}
-use borrow.Author.Tests.{eqb-true, not-false}
-use Rattle.scan.proofs.Bools.{by_cases, and_both, Same, sames, same, other}
+use lib.ListN.{length, get_or, drop, length-append}
+use Rattle.std.proofs.Math.Seq.{drop-append_seam}
+use Rattle.std.proofs.lemmas.List.{nil_from_length}
+use Rattle.scan.specs.Lists.{all}
+use Rattle.scan.proofs.Loops.{turn, end}
+use Rattle.scan.proofs.Bools.{and_and, and_both, both}
 use Rattle.table.specs.Table.{no_session}
 use Rattle.table.specs.Formed.{is_blank}
 use Rattle.table.specs.declared.Session.{Session}
+use Rattle.formed.specs.Standings.{is_vacant}
 
--- nobody is at a place
-pub record Nobody (s : Session) : Type 0 where
-  pub number : s.number ≡ 0
-  pub blank : is_blank s ≡ true
+-- a place, by its words and by its bytes as one number
+bytes_none : (a b c : ℕ) → eqb (a + b * 256 + c * 65536) 0 ≡ eqb a 0 && (eqb b 0 && eqb c 0)
+bytes_none a b c = grind arith
 
--- nobody is from place `end` on
-pub record Clear (l : List Session) (end : ℕ) : Type 0 where
-  pub places : length l ≡ 32
-  pub most : end ≤ 32
-  pub nobody : (i : ℕ) → end ≤ i → i < 32 → Nobody (get_or l i no_session)
-
-pub clear_start : (l : List Session) → length l ≡ 32 → Clear l 32
-clear_start l e = record { places = e; most = omega arith; nobody = λ i h k. absurd (omega arith) }
-
--- nobody is at the k places from `from` on, where `vacant` says so of their words and their bytes add up to 0
-pub record Clearing (l : List Session) (from k : ℕ) (vacant : Bool) (bytes : ℕ) : Type 0 where
-  pub most : k ≤ 8
-  pub small : bytes ≤ k * 4294967296
-  pub nobody : vacant ≡ true → bytes ≡ 0 → (i : ℕ) → from ≤ i → i < from + k → Nobody (get_or l i no_session)
-
-pub clearing_start : (l : List Session) (from : ℕ) → Clearing l from 0 true 0
-clearing_start l from = record { most = omega arith; small = omega arith; nobody = λ v b i h k. absurd (omega arith) }
-
--- one place, by its words and its bytes
-nobody_at : (s : Session) → (eqb s.number 0 && eqb s.address 0 && eqb s.last 0 && eqb s.port 0) ≡ true → s.stream + s.owner * 256 + s.playing * 65536 ≡ 0 → Nobody s
+pub vacant_by : (s : Session) {n : ℕ} → n ≡ s.stream + s.owner * 256 + s.playing * 65536 → (eqb s.number 0 && eqb s.address 0 && eqb s.last 0 && eqb s.port 0 && eqb n 0) ≡ is_vacant s
 unfolding is_blank
-nobody_at s e b =
-    let c = and_both (eqb s.number 0 && eqb s.address 0 && eqb s.last 0) (eqb s.port 0) e in
-    let d = and_both (eqb s.number 0 && eqb s.address 0) (eqb s.last 0) c.0 in
-    let f = and_both (eqb s.number 0) (eqb s.address 0) d.0 in
-    let x : s.stream ≡ 0 = omega arith in
-    let y : s.owner ≡ 0 = omega arith in
-    let z : s.playing ≡ 0 = omega arith in
-    record { number = eqb-true _ _ f.0; blank = rw (f.1, d.1, c.1, x, y, z) }
+vacant_by s e = rw (e, bytes_none s.stream s.owner s.playing) (simp and_assoc)
 
-module _ {l : List Session} {from k bytes m : ℕ} {vacant r : Bool} where
-  pub clearing_more : Clearing l from k vacant bytes → k < 8
-      → r ≡ (eqb (get_or l (from + k) no_session).number 0 && eqb (get_or l (from + k) no_session).address 0 && eqb (get_or l (from + k) no_session).last 0 && eqb (get_or l (from + k) no_session).port 0)
-      → (m ≡ (get_or l (from + k) no_session).stream + (get_or l (from + k) no_session).owner * 256 + (get_or l (from + k) no_session).playing * 65536) × (m < 4294967296)
-      → Clearing l from (k + 1) (vacant && r) (bytes + m)
-  clearing_more c h e f =
-      record {
-        most = omega arith;
-        small = omega (arith, c.small, f.1);
-        nobody = λ v b i x y. let w = and_both vacant r v in by w (omega arith) (omega arith) i x y (sames i (from + k));
-      }
-    where
-      by : (vacant ≡ true) × (r ≡ true) → bytes ≡ 0 → m ≡ 0 → (i : ℕ) → from ≤ i → i < from + (k + 1) → Same i (from + k) → Nobody (get_or l i no_session)
-      by w b z i x y (same q) = rw q (nobody_at (get_or l (from + k) no_session) (sym e ∙ w.1) (sym f.0 ∙ z))
-      by w b z i x y (other q) = c.nobody w.0 b i x (omega arith)
+-- v says whether nobody is at the places looked at so far, up to i
+pub record Looked (l : List Session) (i : ℕ) (v : Bool) : Type 0 where
+  pub same : v && all is_vacant (drop i l) ≡ all is_vacant l
 
-pub clear_more : {l : List Session} {end from k bytes : ℕ} {vacant : Bool} → Clear l end → from + 8 ≡ end → Clearing l from k vacant bytes → 8 ≤ k → not (vacant && eqb bytes 0) ≡ false → Clear l from
-clear_more {l} {end} {from} {k} {bytes} {vacant} a e c h q =
-    let b = and_both vacant (eqb bytes 0) (not-false _ q) in
+pub looked_start : (l : List Session) → Looked l 0 true
+looked_start l = record { same = refl }
+
+pub looked_more : {l : List Session} {i : ℕ} {v r : Bool} → Looked l i v → i < length l → r ≡ is_vacant (get_or l i no_session) → Looked l (i + 1) (v && r)
+looked_more {l} {i} {v} {r} s h e =
+    let t : r && all is_vacant (drop (i + 1) l) ≡ all is_vacant (drop i l) = rw e (sym (turn (all is_vacant) l i no_session h)) in
+    record { same = sym (and_and v r (all is_vacant (drop (i + 1) l))) ∙ ap (λ b. v && b) t ∙ s.same }
+
+pub looked_end : {l : List Session} {i : ℕ} {v : Bool} → Looked l i v → length l ≤ i → v ≡ all is_vacant l
+looked_end {l} {i} {v} s h = sym (ap (λ b. v && b) (end (all is_vacant) l i h) ∙ and-true v) ∙ s.same
+
+-- `end` places are left, and nobody is behind them
+pub record Cleared (l left : List Session) (size end : ℕ) : Type 0 where
+  pub eight : size ≡ 8
+  pub count : end ≡ length left
+  pub behind : List Session
+  pub whole : left ++ behind ≡ l
+  pub vacant : all is_vacant behind ≡ true
+
+all_both : (a b : List Session) → all is_vacant a ≡ true → all is_vacant b ≡ true → all is_vacant (a ++ b) ≡ true
+all_both [] b x y = y
+all_both (s ∷ a) b x y = let e = and_both (is_vacant s) (all is_vacant a) x in both e.0 (all_both a b e.1 y)
+
+pub cleared_start : (l none : List Session) {left : List Session} {size : ℕ} → length l ≡ 32 → l ≡ none ++ left → length none ≡ length l % size → size ≡ 8 → Cleared l left size 32
+cleared_start l none {left} {size} e w n s =
+    let z : length none ≡ 0 = n ∙ rw (e, s) in
+    let b : none ≡ [] = nil_from_length none z in
+    let c : left ≡ l = sym (rw b at w) in
+    record { eight = s; count = rw c (sym e); behind = []; whole = append-nil left ∙ c; vacant = refl }
+
+pub cleared_more : (x : List Session) {l left rest : List Session} {size next end : ℕ} → Cleared l left size end → next ≡ size → left ≡ rest ++ x → length x ≡ size → all is_vacant x ≡ true → Cleared l rest next (end - 8)
+cleared_more x {l} {left} {rest} {size} {next} {end} c n w k v =
+    let m : length left ≡ length rest + length x = ap length w ∙ length-append rest x in
     record {
-      places = a.places;
-      most = omega (arith, a.most);
-      nobody = λ i x y. by_cases (dec_lt i end) (λ t. c.nobody b.0 (eqb-true _ _ b.1) i x (omega (arith, c.most))) (λ t. a.nobody i (omega arith) y);
+      eight = n ∙ c.eight;
+      count = omega (arith, m, c.count, c.eight, k);
+      behind = x ++ c.behind;
+      whole = sym (append_assoc rest x c.behind) ∙ rw w at c.whole;
+      vacant = all_both x c.behind v c.vacant;
     }
+
+-- eight places more are there
+pub cleared_least : (rest x : List Session) {l left : List Session} {size end : ℕ} → Cleared l left size end → left ≡ rest ++ x → length x ≡ size → 8 ≤ end
+cleared_least rest x {l} {left} c w k = omega (arith, ap length w ∙ length-append rest x, c.count, c.eight, k)
+
+pub cleared_end : {l left : List Session} {size end : ℕ} → length l ≡ 32 → Cleared l left size end → (end ≤ 32) × (all is_vacant (drop end l) ≡ true)
+cleared_end {l} {left} e c =
+    (omega (arith, e, ap length c.whole, length-append left c.behind, c.count), rw (c.count, sym c.whole, drop-append_seam left c.behind) c.vacant)

@@ -1,9 +1,13 @@
 -- What one look at a table finds: whether it is well formed, and since when its oldest session was not heard of. Assumes nothing.
-use Rattle.std.specs.Prelude.{ℕ, min, cond, List, [], ◌∷◌, Option, Some, None}
+use Rattle.std.specs.Prelude.{ℕ, Bool, ◌&&◌, min, cond, List, [], ◌∷◌, Option, Some, None}
 use Rattle.table.specs.Table.{is_free}
-use Rattle.table.specs.Formed.{well_formed}
+use Rattle.table.specs.Formed.{is_blank, well_formed}
 use Rattle.table.specs.declared.Session.{Session}
 use Rattle.table.specs.declared.SatBox.{SatBox}
+
+-- nobody is at a place, and all of it is 0
+abbrev pub is_vacant : Session → Bool
+is_vacant s = is_free s && is_blank s
 
 -- no last time is later
 abbrev pub latest : ℕ

@@ -3,7 +3,7 @@
 // not look for sessions that have expired.
 #![tactic(auto)]
 
-ghost use Rattle.std.specs.Prelude.{◌≡◌, true, false, not, cond, ◌&&◌, ◌||◌, List, ◌∷◌, map, ℕ, ◌+◌, ◌*◌, ◌%◌, ◌≤◌, ◌<◌, min, eqb, leb, length, get_or, take, drop, replicate, is_some};
+ghost use Rattle.std.specs.Prelude.{◌≡◌, true, false, not, cond, ◌&&◌, ◌||◌, List, ◌∷◌, map, ℕ, ◌+◌, ◌*◌, ◌%◌, ◌≤◌, ◌<◌, eqb, leb, length, get_or, take, drop, replicate, is_some};
 ghost use Rattle.scan.specs.Lists.{is_between, all};
 ghost use Rattle.stream.specs.Values.{is_zero};
 ghost use Rattle.stream.specs.Streams.{is_sound};
@@ -12,24 +12,13 @@ ghost use Rattle.table.specs.Table.{count, are_distinct, is_among, is_free, is_o
 ghost use Rattle.table.specs.Reach.{has_source, set_of};
 ghost use Rattle.table.specs.Formed.{is_placed, are_owned, is_seated, is_blank};
 ghost use Rattle.table.specs.declared.Session.{Session};
-ghost use Rattle.formed.specs.Standings.{oldest, standing_of};
+ghost use Rattle.formed.specs.Standings.{is_vacant, oldest, standing_of};
 
 use stream::Stream;
 use table::{SatBox, Session, Settings};
 
 // No last time is later: the oldest where no session is open.
 const LATEST: u32 = 4294967295;
-
-fn is_empty(s: Session) -> bool
-    ensures { result ≡ is_blank s }
-{
-    (s.address == 0)
-        & (s.last == 0)
-        & (s.port == 0)
-        & (s.stream == 0)
-        & (s.owner == 0)
-        & (s.playing == 0)
-}
 
 // Whether an open session's values are in range and its last time is not past the clock.
 fn is_seated(s: Session, clock: u32) -> bool
@@ -47,27 +36,28 @@ fn is_fitting(held: u32, size: u32, opens: usize) -> bool
     requires { opens ≤ 32 }
     ensures { result ≡ (eqb (held % 16) 0 && leb (held + 16 * opens) size) }
 {
-    let closings = SatBox::RECORD as u64 * opens as u64;
-    (held % SatBox::RECORD == 0) & ((held as u64) + closings <= (size as u64))
+    let closings = u64::from(SatBox::RECORD) * opens as u64;
+    (held % SatBox::RECORD == 0) & (u64::from(held) + closings <= u64::from(size))
 }
 
-// Whether the words of a place are 0; its bytes are counted apart.
+// A place's bytes as one number.
+fn bytes_of(s: Session) -> u32
+    ensures { result ≡ s.stream + s.owner * 256 + s.playing * 65536 }
+{
+    u32::from(s.stream) + u32::from(s.owner) * 256 + u32::from(s.playing) * 65536
+}
+
+// Whether nobody is at a place, and all of it is 0. It has no way out inside and takes the bytes as one number, so that many places are looked at at
+// once (compared with one where nobody is, each field is looked at by itself: some 100 instructions more for eight places).
 fn is_vacant(s: Session) -> bool
-    ensures { result ≡ (eqb s.number 0 && eqb s.address 0 && eqb s.last 0 && eqb s.port 0) }
+    ensures { result ≡ is_vacant s }
 {
-    (s.number == 0) & (s.address == 0) & (s.last == 0) & (s.port == 0)
-}
-
-// A place's bytes as one number: of some places they are added up, and all are 0 exactly if the sum is.
-fn bytes_of(s: Session) -> u64
-    ensures { (result ≡ s.stream + s.owner * 256 + s.playing * 65536) × (result < 4294967296) }
-{
-    s.stream as u64 + s.owner as u64 * 256 + s.playing as u64 * 65536
+    (s.number == 0) & (s.address == 0) & (s.last == 0) & (s.port == 0) & (bytes_of(s) == 0)
 }
 
 // Whether a number is among the first of some that have zeros behind them. Most tables have at most eight sessions.
-fn is_taken(numbers: &[u32], opens: usize, n: u32) -> bool
-    requires { (length numbers.now ≡ 32) × (eqb n 0 ≡ false) × (opens ≤ 32) × (all is_zero (drop opens numbers.now) ≡ true) }
+fn is_taken(numbers: &[u32; 32], opens: usize, n: u32) -> bool
+    requires { (eqb n 0 ≡ false) × (opens ≤ 32) × (all is_zero (drop opens numbers.now) ≡ true) }
     ensures { result ≡ is_among n (take opens numbers.now) }
 {
     let first = table::is_among(&numbers[0..8], n);
@@ -77,21 +67,9 @@ fn is_taken(numbers: &[u32], opens: usize, n: u32) -> bool
     first | table::is_among(&numbers[8..32], n)
 }
 
-fn wide(frontend: u8) -> u32
-    ensures { result ≡ frontend }
-{
-    frontend as u32
-}
-
-fn earlier(a: u32, b: u32) -> u32
-    ensures { result ≡ min b a }
-{
-    if b < a { b } else { a }
-}
-
 // Whether an open session may stand behind those before it: it is seated, on a live stream, and none of them has its number.
-fn is_admitted(s: Session, clock: u32, feeds: &[u32], numbers: &[u32], opens: usize) -> bool
-    requires { (length feeds.now ≡ 9) × (length numbers.now ≡ 32) × (eqb s.number 0 ≡ false) × (opens ≤ 32) × (all is_zero (drop opens numbers.now) ≡ true) }
+fn is_admitted(s: Session, clock: u32, feeds: &[u32; 9], numbers: &[u32; 32], opens: usize) -> bool
+    requires { (eqb s.number 0 ≡ false) × (opens ≤ 32) × (all is_zero (drop opens numbers.now) ≡ true) }
     ensures { result ≡ (is_seated clock s && (not (is_zero (get_or feeds.now s.stream 0)) && not (is_among s.number (take opens numbers.now)))) }
 {
     let id = s.stream as usize;
@@ -105,8 +83,7 @@ fn is_admitted(s: Session, clock: u32, feeds: &[u32], numbers: &[u32], opens: us
 }
 
 // Whether each live stream has one owner. The frontend of each stream, and how many own it, stand at its ID.
-fn are_owned(feeds: &[u32], owners: &[u32]) -> bool
-    requires { (length feeds.now ≡ 9) × (length owners.now ≡ 9) }
+fn are_owned(feeds: &[u32; 9], owners: &[u32; 9]) -> bool
     ensures { (l : List Session) (ms : List Stream) → feeds.now ≡ 0 ∷ map (λ m. m.frontend) ms
         → ((id : ℕ) → id < 9 → get_or owners.now id 0 ≡ count (owns id) l) → result ≡ are_owned l 1 ms }
 {
@@ -125,17 +102,17 @@ fn is_placed(m: Stream, settings: Settings) -> bool
         return false;
     }
     let v = m.values;
-    table::has_source(table::set_of(settings, wide(m.frontend)), v.src)
+    table::has_source(table::set_of(settings, u32::from(m.frontend)), v.src)
 }
 
 // Whether the streams are sound, each on a frontend that reaches its src; their frontends are put at their IDs.
-fn are_sound(streams: &[Stream; 8], settings: Settings, feeds: &mut [u32]) -> bool
+fn are_sound(streams: &[Stream; 8], settings: Settings, feeds: &mut [u32; 9]) -> bool
     requires { feeds.old ≡ replicate 9 0 }
     ensures { (result ≡ all (is_placed settings) streams.now) × (result ≡ true → feeds.new ≡ 0 ∷ map (λ m. m.frontend) streams.now) }
 {
     for (k, m) in streams.iter().enumerate() {
         let feed = m.frontend;
-        feeds[k + 1] = wide(feed);
+        feeds[k + 1] = u32::from(feed);
         if feed == 0 {
             if !stream::is_unused(*m) {
                 return false;
@@ -147,48 +124,55 @@ fn are_sound(streams: &[Stream; 8], settings: Settings, feeds: &mut [u32]) -> bo
     true
 }
 
-// Looks at the sessions, with the streams' frontends at their IDs, and puts how many own each stream at its ID. The last places are passed over
-// eight at a time as long as nobody is there. Of the open sessions so far it keeps their numbers, how many they are, and the oldest last time.
+// Whether nobody is at some places.
+fn are_vacant(sessions: &[Session]) -> bool
+    ensures { result ≡ all is_vacant sessions.now }
+{
+    let mut vacant = true;
+    for s in sessions {
+        vacant &= is_vacant(*s);
+    }
+    vacant
+}
+
+// How many places are looked at: nobody is behind them. The last ones are passed over eight at a time as long as nobody is there (one by one, by
+// `rposition`, takes 481 instructions more where nobody is).
+fn end_of(sessions: &[Session; 32]) -> usize
+    ensures { (result ≤ 32) × (all is_vacant (drop result sessions.now) ≡ true) }
+{
+    let mut end = SatBox::SESSIONS;
+    for eight in sessions.rchunks_exact(8) {
+        if !are_vacant(eight) {
+            break;
+        }
+        end -= 8;
+    }
+    end
+}
+
+// Looks at the sessions, with the streams' frontends at their IDs, and puts how many own each stream at its ID. Of the open sessions so far it keeps
+// their numbers, how many they are, and the oldest last time.
 fn seats_of(
     sessions: &[Session; 32],
     clock: u32,
     held: u32,
     size: u32,
-    feeds: &[u32],
-    owners: &mut [u32],
+    feeds: &[u32; 9],
+    owners: &mut [u32; 9],
 ) -> Option<u32>
-    requires { (length feeds.now ≡ 9) × (owners.old ≡ replicate 9 0) }
+    requires { owners.old ≡ replicate 9 0 }
     ensures { (result ≡ cond (are_distinct (map (λ s. s.number) sessions.now)
         && (all (λ s. is_free s || not (is_zero (get_or feeds.now s.stream 0))) sessions.now
         && (all (λ s. cond (is_free s) (is_blank s) (is_seated clock s)) sessions.now
         && (eqb (held % 16) 0 && leb (held + 16 * count is_open sessions.now) size)))) (Some (oldest sessions.now)) None)
         × (is_some result ≡ true → (id : ℕ) → id < 9 → get_or owners.new id 0 ≡ count (owns id) sessions.now) }
 {
-    // A `while`: where it stops is not known before.
-    let mut end = SatBox::SESSIONS;
-    while 8 <= end {
-        let from = end - 8;
-        if sessions[from].number != 0 {
-            break;
-        }
-        let mut vacant = true;
-        let mut bytes = 0u64;
-        for k in 0..8 {
-            let s = sessions[from + k];
-            vacant = vacant & is_vacant(s);
-            bytes += bytes_of(s);
-        }
-        if !(vacant & (bytes == 0)) {
-            break;
-        }
-        end = from;
-    }
     let mut numbers = [0u32; 32];
     let mut opens = 0;
     let mut oldest = LATEST;
-    for s in &sessions[..end] {
+    for s in &sessions[..end_of(sessions)] {
         if s.number == 0 {
-            if !is_empty(*s) {
+            if *s != Session::NONE {
                 return None;
             }
             continue;
@@ -197,9 +181,9 @@ fn seats_of(
             return None;
         }
         numbers[opens] = s.number;
-        owners[s.stream as usize] += s.owner as u32;
+        owners[s.stream as usize] += u32::from(s.owner);
         opens += 1;
-        oldest = earlier(oldest, s.last);
+        oldest = oldest.min(s.last);
     }
     if !is_fitting(held, size, opens) {
         return None;
@@ -211,6 +195,9 @@ fn seats_of(
 pub fn standing_of(t: &SatBox) -> Option<u32>
     ensures { result ≡ standing_of t.now }
 {
+    if !table::are_settings(t.settings) {
+        return None;
+    }
     let mut feeds = [0u32; 9];
     if !are_sound(&t.streams, t.settings, &mut feeds) {
         return None;
@@ -224,7 +211,7 @@ pub fn standing_of(t: &SatBox) -> Option<u32>
         &feeds,
         &mut owners,
     )?;
-    if table::are_settings(t.settings) & table::are_distinct(&feeds) & are_owned(&feeds, &owners) {
+    if table::are_distinct(&feeds) & are_owned(&feeds, &owners) {
         return Some(oldest);
     }
     None

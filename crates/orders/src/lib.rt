@@ -12,19 +12,20 @@ ghost use Rattle.orders.specs.Orders.{plays_as_owner, order_for, order_of};
 use stream::Stream;
 use table::{Refusal, SatBox, Session};
 
-// The place of the stream that holds a frontend, below 8.
+// The place of the stream that holds a frontend, below 8. (`sized`: of an array behind a reference a caller knows the length only where it reads it,
+// and where there is no such place `order_for` reads none. Without the clause its proof does not close.)
 fn place_fed(streams: &[Stream; 8], n: u32) -> Option<usize>
     ensures first { result ≡ unless 8 (first (λ (m : Stream). eqb m.frontend n) streams.now) }
     ensures within { IfSome result (λ place. place < 8) }
     ensures sized { length streams.now ≡ 8 }
 {
-    streams.iter().position(|m| m.frontend as u32 == n)
+    streams.iter().position(|m| u32::from(m.frontend) == n)
 }
 
 fn plays_as_owner(s: Session, id: u8) -> bool
     ensures { result ≡ plays_as_owner id s }
 {
-    ((!(s.number == 0) & (s.stream == id)) & !(s.owner == 0)) & !(s.playing == 0)
+    s.number != 0 && s.stream == id && s.owner != 0 && s.playing != 0
 }
 
 // Whether the owner of the stream of an ID plays.
@@ -53,7 +54,7 @@ fn order_for(t: &SatBox, n: u32) -> Option<Stream>
 fn is_frontend(n: u32, frontends: u16) -> bool
     ensures { result ≡ is_between 1 frontends n }
 {
-    (1..=frontends as u32).contains(&n)
+    (1..=u32::from(frontends)).contains(&n)
 }
 
 // Refusals 1 and 5 of document 01, tested in that order.

@@ -1,6 +1,6 @@
 -- Values in range: all nine at once, as the meaning has them, and each by its attribute's place, as the code looks at them. Assumes nothing.
-use mathlib.Core.Path.{◌≡◌, refl}
-use mathlib.Core.Bool.{Bool, true, false, ◌&&◌}
+use mathlib.Core.Path.{◌≡◌}
+use mathlib.Core.Bool.{◌&&◌}
 use Prim.Native.Nat.{ℕ, zero, suc}
 use native.Mathlib.Omega.{arith}
 use lib.Dec.{leb}
@@ -8,10 +8,6 @@ use borrow.Author.Tests.{ne_eqb, le-leb}
 use Rattle.stream.specs.Values.{is_missing_or, are_in_range}
 use Rattle.stream.specs.Arrays.{is_in_range}
 use Rattle.stream.specs.declared.Values.{Values}
-
-pub and_nested : (a b c : Bool) → a && b && c ≡ a && (b && c)
-and_nested true b c = refl
-and_nested false b c = refl
 
 -- a word's code: 0, or 1 to as many as there are words
 words : (most code : ℕ) → leb code most ≡ is_missing_or 1 most code

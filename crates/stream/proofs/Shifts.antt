@@ -9,7 +9,7 @@ use lib.ListN.{length, get_or, take, drop, set, replicate, length-append, length
 use borrow.Rule.Slice.PartMut.{put_mid, mid_of, post_of, mid_len, Post-is}
 use lib.Seq.{length-take-le, take-suc, take-take, take_all, take_at, drop-cons, get_or-take, get_or-drop, get_or-append-add, set_at, append_snoc, paste, take-paste}
 use Rattle.scan.proofs.Parts.{drop_take}
-use Rattle.stream.specs.Arrays.{laid_out, Front}
+use Rattle.stream.specs.Arrays.{laid_out}
 
 -- the first i elements of b are those of w, and the others still those of a
 pub record Filled (a w b : List ℕ) (i : ℕ) : Type 0 where
@@ -122,12 +122,12 @@ module _ {a : List ℕ} {count at p : ℕ} {b : List ℕ} {carried i : ℕ} (o :
             ∙ sym (after_start a count at l (omega arith) (p ∷ drop at (take count a)) (suc (i - at)) (i + 1) (omega arith) ∙ in_first a count at l (omega arith) at (i - at) i (omega arith) h);
       }
 
-  pub opening_end : count ≤ i → Front (with_one (take count a) at p) (set b count carried) (count + 1)
+  pub opening_end : count ≤ i → take (count + 1) (set b count carried) ≡ with_one (take count a) at p
   opening_end h =
       let e : i ≡ count = omega (arith, o.order) in
       let n : length (with_one (take count a) at p) ≡ count + 1 = count_more a count at (omega (arith, o.long, o.room)) (omega (arith, o.from)) p in
       let f : Filled a (with_one (take count a) at p) (set b count carried) (count + 1) = rw e at (opened (omega arith)) in
-      record { within = omega (arith, o.room); is = filled_front f (omega arith) }
+      filled_front f (omega arith)
 
   pub opening_kept : (j v : ℕ) → length (set b j v) ≡ length a
   opening_kept j v = length-set b j v ∙ o.kept ∙ sym o.long
@@ -141,13 +141,13 @@ module _ (a : List ℕ) (count at : ℕ) (l : length a ≡ 32) (k : count ≤ 32
   rest_is : take (count - (at + 1)) (drop (at + 1) a) ≡ drop (suc at) (take count a)
   rest_is = sym (drop_take (at + 1) count a) ∙ rw add-one
 
-  pub closed : {b : List ℕ} → b ≡ paste a at (drop (at + 1) a) (count - (at + 1)) → Front (without (take count a) at) b (count - 1)
+  pub closed : {b : List ℕ} → b ≡ paste a at (drop (at + 1) a) (count - (at + 1)) → take (count - 1) b ≡ without (take count a) at
   closed {b} e =
       let n : at + (count - (at + 1)) ≡ count - 1 = omega arith in
       let t : take at a ≡ take at (take count a) = sym (take-take at count a (omega arith)) in
       let p : take (count - 1) b ≡ take at a ++ take (count - (at + 1)) (drop (at + 1) a) =
       rw (e, ← n) (take-paste a at (drop (at + 1) a) (count - (at + 1)) (omega arith) (omega (arith, length-drop (at + 1) a))) in
-      record { within = omega arith; is = p ∙ rw (rest_is, t) }
+      p ∙ rw (rest_is, t)
 
 -- zeros are put after the first `count` PIDs
 pub laid : (a : List ℕ) (count : ℕ) {zeros : List ℕ} → length a ≡ 32 → count ≤ 32 → zeros ≡ replicate (length (mid_of count (32 - count) a)) 0

@@ -1,7 +1,9 @@
 -- A place tested part by part: each test that fails settles that it is not sound, and the last one says whether it is. Assumes nothing.
-use mathlib.Core.Path.{◌≡◌, refl, ◌∙◌, sym}
-use mathlib.Core.Bool.{Bool, true, false, not, ◌&&◌, ◌||◌}
-use Prim.Native.Nat.{ℕ, ◌≤◌, ◌<◌}
+use mathlib.Core.Path.{◌≡◌, refl, ap, ◌∙◌, sym}
+use mathlib.Core.Bool.{Bool, true, false, not, ◌&&◌, ◌||◌, and-true, and-false}
+use mathlib.Core.List.{List, [], ◌∷◌}
+use lib.Pointwise.{pointwise}
+use Prim.Native.Nat.{ℕ, zero, suc, ◌≤◌, ◌<◌}
 use native.Mathlib.Omega.{arith}
 use lib.Dec.{eqb, leb}
 use lib.ListN.{length, replicate}
@@ -14,6 +16,31 @@ use Rattle.stream.specs.Streams.{no_stream, blank, are_zero, is_sound}
 use Rattle.stream.specs.declared.Values.{Values}
 use Rattle.stream.specs.declared.Stream.{Stream}
 use Rattle.stream.proofs.Padding.{zeros_are}
+
+-- a place where no stream is, compared field by field
+all_zero : (n : ℕ) (l : List ℕ) → length l ≡ n → pointwise eqb l (replicate n 0) ≡ all is_zero l
+all_zero zero [] e = refl
+all_zero zero (p ∷ l) e = absurd (omega arith)
+all_zero (suc n) [] e = absurd (omega arith)
+all_zero (suc n) (p ∷ l) e = ap (λ b. eqb p 0 && b) (all_zero n l (omega arith))
+
+none_by : (v : Values) → eqb v.src 0 && (eqb v.freq 0 && (eqb v.pol 0 && (eqb v.msys 0 && (eqb v.mtype 0 && (eqb v.plts 0 && (eqb v.ro 0 && (eqb v.sr 0 && eqb v.fec 0))))))) ≡ are_none v
+unfolding are_none
+none_by v = simp and-true
+
+reorder : (p v c a : Bool) → p && (v && (c && a)) ≡ v && (c && a && p)
+reorder true true true a = sym (and-true a)
+reorder true true false a = refl
+reorder true false c a = refl
+reorder false true true a = sym (and-false a)
+reorder false true false a = refl
+reorder false false c a = refl
+
+pub unused_by : (m : Stream) {r : Bool} → length m.pids ≡ 32
+    → r ≡ (pointwise eqb m.pids (replicate 32 0) && ((eqb m.values.src 0 && (eqb m.values.freq 0 && (eqb m.values.pol 0 && (eqb m.values.msys 0 && (eqb m.values.mtype 0 && (eqb m.values.plts 0 && (eqb m.values.ro 0 && (eqb m.values.sr 0 && eqb m.values.fec 0)))))))) && (eqb m.count 0 && eqb m.all 0)))
+    → r ≡ are_zero m
+unfolding are_zero
+unused_by m long e = e ∙ rw (all_zero 32 m.pids long, none_by m.values) (reorder (all is_zero m.pids) (are_none m.values) (eqb m.count 0) (eqb m.all 0))
 
 -- a place where no stream is
 pub unused_is : (f : ℕ) (m : Stream) → m.frontend ≡ 0 → is_sound f m ≡ are_zero m

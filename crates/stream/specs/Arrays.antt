@@ -1,4 +1,4 @@
--- What the crates promise each other of a stream's values and PIDs: each attribute by its place, ascending lists, and a list at the front of an array
+-- What the crates promise each other of a stream's values and PIDs: each attribute by its place, ascending lists, and a list
 -- while it is edited. No call of the box reaches it. Assumes nothing.
 use Rattle.std.specs.Prelude.{ℕ, suc, ◌-◌, ◌≤◌, ◌<◌, ◌≡◌, Bool, true, false, cond, ◌&&◌, ◌||◌, eqb, leb, ltb, length, take, drop, get_or, replicate, Option, Some, None, Result, Ok, Err}
 use mathlib.Core.List.{List, [], ◌∷◌, ◌++◌, foldr}
@@ -7,7 +7,9 @@ use Rattle.digits.specs.Reading.{read_number}
 use Rattle.digits.specs.declared.Zeros.TheVariants.{Allowed}
 use Rattle.stream.specs.Values.{is_missing_or}
 use Rattle.stream.specs.Pids.{added, removed, with_number, numbers_in, obeyed, Choice}
-use Rattle.stream.specs.declared.pids.Pids.{Pids}
+use Rattle.stream.specs.declared.pids.Picked.{Picked}
+use Rattle.stream.specs.declared.Refusal.{Refusal}
+use Rattle.stream.specs.declared.Refusal.TheVariants.{TooMany}
 
 -- the highest PID, how many a stream may have, and when those are too many
 abbrev pub highest : ℕ
@@ -92,15 +94,10 @@ abbrev pub Placed : ℕ → List ℕ → Result ℕ ℕ → Type 0
 Placed p l (Ok k) = There p l k
 Placed p l (Err k) = Missing p l k
 
--- the first n PIDs of the array a are the list l
-pub record Front (l a : List ℕ) (n : ℕ) : Type 0 where
-  pub within : n ≤ most
-  pub is : take n a ≡ l
-
--- the same where l fits, and none where it does not
-abbrev pub Held : List ℕ → List ℕ → Option ℕ → Type 0
-Held l a (Some n) = Front l a n
-Held l a None = most < length l
+-- a list is the one that is wanted, where that fits; and else there are too many
+abbrev pub Fits : List ℕ → List ℕ → Result (Unit {0}) Refusal → Type 0
+Fits l a (Ok done) = a ≡ l
+Fits l a (Err e) = (e ≡ TooMany) × (most < length l)
 
 -- what is done with each PID of a text
 abbrev pub edit_of : Bool → ℕ → List ℕ → List ℕ
@@ -121,10 +118,6 @@ abbrev pub laid_out : List ℕ → List ℕ
 laid_out l = l ++ replicate (most - length l) 0
 
 -- a choice as the code has it while it merges, if it fits
-pub record Chosen (c : Choice) (p : Pids) : Type 0 where
-  pub all : p.all ≡ c.all
-  pub front : Front c.list p.list p.count
-
-abbrev pub Chooses : Choice → Option Pids → Type 0
-Chooses c (Some p) = Chosen c p
-Chooses c None = most < length c.list
+abbrev pub Chooses : Choice → Result Picked Refusal → Type 0
+Chooses c (Ok p) = (p.list ≡ c.list) × (p.all ≡ c.all)
+Chooses c (Err e) = (e ≡ TooMany) × (most < length c.list)

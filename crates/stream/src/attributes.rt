@@ -1,11 +1,12 @@
 // A stream's values: which are in range, which go together, and what a query's values replace.
 ghost use Rattle.std.specs.Prelude.{◌≡◌};
-ghost use Rattle.stream.specs.Values.{are_none, are_in_range, go_together, given, merged, are_complete};
+ghost use Rattle.stream.specs.Values.{are_in_range, go_together, given, merged, are_complete};
 ghost use Rattle.stream.specs.Arrays.{is_in_range};
 
 use crate::Values;
 
-// Whether an attribute, by its place in document 01's table, may have this code in a stream.
+// Whether an attribute, by its place in document 01's table, may have this code in a stream: a match, which is the form that document 01 names for
+// value ranges.
 fn is_in_range(attribute: usize, code: u32) -> bool
     ensures { result ≡ is_in_range attribute code }
 {
@@ -50,21 +51,6 @@ pub fn are_complete(v: Values) -> bool
     ensures { result ≡ are_complete v }
 {
     !(v.freq == 0) & !(v.pol == 0) & !(v.msys == 0) & !(v.sr == 0) & !(v.fec == 0)
-}
-
-// Whether every value is 0, as in a place where no stream is.
-pub(crate) fn are_none(v: Values) -> bool
-    ensures { result ≡ are_none v }
-{
-    (v.src == 0)
-        & (v.freq == 0)
-        & (v.pol == 0)
-        & (v.msys == 0)
-        & (v.mtype == 0)
-        & (v.plts == 0)
-        & (v.ro == 0)
-        & (v.sr == 0)
-        & (v.fec == 0)
 }
 
 // A value after a query that gives a code for it, or 0 where it gives none.

@@ -2,14 +2,15 @@
 #![tactic(auto)]
 
 mod attributes;
+mod list;
 mod pids;
 
 ghost use Rattle.std.specs.Prelude.{◌≡◌};
 ghost use Rattle.stream.specs.Streams.{blank, are_zero, is_sound, merge_of};
 
 pub use attributes::are_complete;
-use attributes::{are_in_range, are_none, go_together, merged};
-use pids::{are_zero, choose, is_padded};
+use attributes::{are_in_range, go_together, merged};
+use pids::{choose, is_padded};
 
 // Document 01's attributes that a stream keeps, as `tuning` codes them: 0 where one is missing.
 #[repr(C)]
@@ -24,6 +25,21 @@ pub struct Values {
     pub ro: u32,
     pub sr: u32,
     pub fec: u32,
+}
+
+impl Values {
+    // With all of them missing, as where no stream is.
+    pub const NONE: Values = Values {
+        src: 0,
+        freq: 0,
+        pol: 0,
+        msys: 0,
+        mtype: 0,
+        plts: 0,
+        ro: 0,
+        sr: 0,
+        fec: 0,
+    };
 }
 
 // One stream's place: live exactly if its frontend is not 0. The fields fill it without a gap, so that every byte belongs to one.
@@ -44,17 +60,7 @@ impl Stream {
     // A place where no stream is.
     pub const NONE: Stream = Stream {
         pids: [0; 32],
-        values: Values {
-            src: 0,
-            freq: 0,
-            pol: 0,
-            msys: 0,
-            mtype: 0,
-            plts: 0,
-            ro: 0,
-            sr: 0,
-            fec: 0,
-        },
+        values: Values::NONE,
         count: 0,
         frontend: 0,
         all: 0,
@@ -68,14 +74,7 @@ impl Stream {
             pids: [0; 32],
             values: Values {
                 src: 1,
-                freq: 0,
-                pol: 0,
-                msys: 0,
-                mtype: 0,
-                plts: 0,
-                ro: 0,
-                sr: 0,
-                fec: 0,
+                ..Values::NONE
             },
             count: 0,
             frontend,
@@ -88,8 +87,8 @@ impl Stream {
 pub fn is_unused(m: Stream) -> bool
     ensures { result ≡ are_zero m }
 {
-    let v = m.values;
-    are_none(v) & ((m.count == 0) & (m.all == 0) & are_zero(&m.pids, 0))
+    let aside = Stream { frontend: 0, ..m };
+    aside == Stream::NONE
 }
 
 // Whether a place is one that a table may have on a box with so many frontends.
@@ -100,7 +99,7 @@ pub fn is_sound(m: Stream, frontends: u16) -> bool
     if m.frontend == 0 {
         return is_unused(m);
     }
-    if frontends < m.frontend as u16 {
+    if frontends < u16::from(m.frontend) {
         return false;
     }
     if !are_in_range(v) {
@@ -115,7 +114,7 @@ pub fn is_sound(m: Stream, frontends: u16) -> bool
     if !((m.all == 0) | (m.count == 0)) {
         return false;
     }
-    is_padded(&m.pids, m.count as usize)
+    is_padded(&m.pids, usize::from(m.count))
 }
 
 // Why a query is not merged.
@@ -142,15 +141,13 @@ pub fn merge(
     if !go_together(values) {
         return Err(Refusal::Combination);
     }
-    let chosen = choose(m, codes, pids, delpids, addpids).ok_or(Refusal::TooMany)?;
-    let count = chosen.count;
-    let mut list = chosen.list;
-    list[count..].fill(0);
+    let picked = choose(m, codes, pids, delpids, addpids)?;
+    let count = picked.list.len() as u16;
     Ok(Stream {
-        pids: list,
+        pids: picked.list.laid_out(),
         values,
-        count: count as u16,
+        count,
         frontend: m.frontend,
-        all: u8::from(chosen.all),
+        all: u8::from(picked.all),
     })
 }

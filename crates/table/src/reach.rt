@@ -11,13 +11,7 @@ const ALL: u8 = 15;
 pub fn has_source(set: u8, source: u32) -> bool
     ensures { result ≡ has_source set source }
 {
-    if source < 1 {
-        return false;
-    }
-    if 4 < source {
-        return false;
-    }
-    (set as u32 >> (source - 1)) % 2 == 1
+    (1..=4).contains(&source) && (u32::from(set) >> (source - 1)) % 2 == 1
 }
 
 // How many sources are in a set.
@@ -31,19 +25,14 @@ pub fn size_of(set: u8) -> u8
 pub fn set_of(settings: Settings, frontend: u32) -> u8
     ensures { result ≡ set_of settings frontend }
 {
-    let reach = settings.reach;
-    let f = frontend as usize;
-    if f < 1 {
-        return 0;
+    match frontend {
+        1..=8 => settings.reach[frontend as usize - 1],
+        _ => 0,
     }
-    if 8 < f {
-        return 0;
-    }
-    reach[f - 1]
 }
 
-// Whether the first sets, of the frontends, have sources and none beyond the fourth, and the others are empty. There is no way out inside: with one
-// the compiler copies the table that is looked at once more.
+// Whether the first sets, of the frontends, have sources and none beyond the fourth, and the others are empty. There is no way out inside, so that
+// all eight are looked at at once.
 pub(crate) fn are_sets(reach: &[u8], frontends: usize) -> bool
     ensures { result ≡ are_sets frontends reach.now }
 {

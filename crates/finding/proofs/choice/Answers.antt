@@ -2,7 +2,7 @@ use Rattle.std.proofs.Common.{ap, refl, arith}
 use Rattle.std.specs.Prelude.{unwrap_or}
 use Rattle.finding.proofs.Frontends.{is_nought, choosing_take, choosing_leave, choosing_end}
 use Rattle.finding.proofs.choice.Goals as goal
-use Rattle.finding.proofs.choice.Goals.{then-f-last, else-f-last}
+use Rattle.finding.proofs.choice.Goals.{then-from-last, else-from-last}
 
 pub loop-f-preserved : goal.loop-f-preserved
 loop-f-preserved c = let l = c.loop-f.invariant in
@@ -12,16 +12,16 @@ loop-f-preserved c = let l = c.loop-f.invariant in
     let low = c.loop-f-test.true in
     let none = is_nought c.loop-f.best c.is_none.result l.1 c.is_none.ensures in (
       omega (arith, l.0),
-      elim c.if-f-last.branch [
-        | then-f-last w ↦ rw w.best-is low
-        | else-f-last w ↦ rw w.best-is l.1
+      elim c.if-from-last.branch [
+        | then-from-last w ↦ rw w.best-is low
+        | else-from-last w ↦ rw w.best-is l.1
       ],
       λ t e q.
-          elim c.if-f-last.branch [
-            | then-f-last w ↦
-                choosing_take sets e (l.2 t e q) low fits size q (rw none at w.if-f-last.true) (ap (λ o. unwrap_or o 0) w.best-is) w.least-is
-            | else-f-last w ↦
-                choosing_leave sets e (l.2 t e q) low fits size q (rw none at w.if-f-last.false) (ap (λ o. unwrap_or o 0) w.best-is) w.least-is
+          elim c.if-from-last.branch [
+            | then-from-last w ↦
+                choosing_take sets e (l.2 t e q) low fits size q (rw (none, c.from.ensures) at w.if-from-last.true) (ap (λ o. unwrap_or o 0) w.best-is) w.least-is
+            | else-from-last w ↦
+                choosing_leave sets e (l.2 t e q) low fits size q (rw (none, c.from.ensures) at w.if-from-last.false) (ap (λ o. unwrap_or o 0) w.best-is) w.least-is
           ],
     )
 

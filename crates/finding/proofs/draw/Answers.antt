@@ -1,4 +1,4 @@
-use Rattle.std.proofs.Common.{◌≡◌, true, length, sym, arith, eq-eqb}
+use Rattle.std.proofs.Common.{◌≡◌, true, sym, arith, eq-eqb}
 use Rattle.table.specs.Table.{no_session, has_number}
 use Rattle.finding.proofs.Draws.{is_taken, drawing_start, drawing_less, drawing_more, taken_zero, taken_open}
 use Rattle.table.proofs.NumberLaws.{lacking_hit}

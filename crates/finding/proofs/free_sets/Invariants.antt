@@ -1,4 +1,4 @@
-use Rattle.std.proofs.Common.{◌≡◌, ◌-◌, length}
+use Rattle.std.proofs.Common.{◌≡◌, length}
 use Rattle.finding.proofs.Frontends.{Freeing}
 use Rattle.finding.proofs.free_sets.Given as goal
 

@@ -1,4 +1,4 @@
-use Rattle.std.proofs.Common.{ℕ, rules, ◌≡◌, ◌∙◌, eqb, refl, sym, List, [], ◌∷◌, map}
+use Rattle.std.proofs.Common.{ℕ, rules, ◌≡◌, ◌∙◌, eqb, refl, List, [], ◌∷◌}
 use Rattle.std.proofs.lemmas.Iterator.{YieldsList-from_slice}
 use Rattle.std.proofs.lemmas.Iterator.Search.{any_from_yields_List}
 use Rattle.table.proofs.Firsts.{any_same}

@@ -12,6 +12,6 @@ pub loop-k-preserved : goal.loop-k-preserved
 loop-k-preserved c =
     let v = c.loop-k.invariant in
     elim c.if-feed-eq0.branch [
-      | then-feed-eq0+else-not-is_unused w ↦ sounding_more v (search known) (unused_placed v (search known) w.if-feed-eq0.true w.is_unused.ensures) c.wide.ensures (ap not w.if-not-is_unused.false)
-      | else-feed-eq0+else-not-is_placed w ↦ sounding_more v (search known) (live_placed v (search known) w.if-feed-eq0.false w.is_placed.ensures) c.wide.ensures (ap not w.if-not-is_placed.false)
+      | then-feed-eq0+else-not-is_unused w ↦ sounding_more v (search known) (unused_placed v (search known) w.if-feed-eq0.true w.is_unused.ensures) c.from.ensures (ap not w.if-not-is_unused.false)
+      | else-feed-eq0+else-not-is_placed w ↦ sounding_more v (search known) (live_placed v (search known) w.if-feed-eq0.false w.is_placed.ensures) c.from.ensures (ap not w.if-not-is_placed.false)
     ]

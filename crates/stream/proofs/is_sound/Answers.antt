@@ -5,8 +5,8 @@ use Rattle.stream.proofs.is_sound.Goals as goal
 pub returns-then-m-eq0 : goal.returns-then-m-eq0
 returns-then-m-eq0 c = search (unused_is, rules)
 
-pub returns-then-frontends-m : goal.returns-then-frontends-m
-returns-then-frontends-m c = search (live_past, rules)
+pub returns-then-frontends-from : goal.returns-then-frontends-from
+returns-then-frontends-from c = search (live_past, rules)
 
 pub returns-then-not-are_in_range : goal.returns-then-not-are_in_range
 returns-then-not-are_in_range c = search (live_values, rules)

@@ -1,6 +1,6 @@
-use Rattle.stream.specs.Streams.{are_zero}
+use borrow.Author.Rules.{rules}
+use Rattle.stream.proofs.Soundness.{unused_by}
 use Rattle.stream.proofs.is_unused.Goals as goal
 
 pub returns : goal.returns
-unfolding are_zero
-returns c = rw (c.are_none.ensures, c.are_zero.ensures)
+returns c = unused_by c.args.m (search rules) c.eq.ensures
