@@ -3,7 +3,7 @@
 use mathlib.Core.Path.{◌≡◌, refl, sym, ap, ap₂, ◌∙◌}
 use mathlib.Core.Bool.{Bool, true, false, ◌&&◌, and-false}
 use mathlib.Core.List.{List, [], ◌∷◌, ◌++◌, map}
-use Prim.Native.Nat.{ℕ, zero, suc, ◌+◌, ◌-◌, ◌/◌, ◌%◌, ◌^◌, ◌≤◌, ◌<◌, min}
+use Prim.Native.Nat.{ℕ, zero, suc, ◌+◌, ◌-◌, ◌/◌, ◌%◌, ◌^◌, ◌≤◌, ◌<◌, ◌*◌, min, max}
 use native.Mathlib.Decide.{dec_lt}
 use native.Mathlib.Nat.{pow-suc, div-lt_iff_lt-mul, mod-lt, mod-eq_of_lt, pow-le-pow_right}
 use native.Mathlib.Omega.{arith}
@@ -83,31 +83,19 @@ pub decimal_length : (m v : ℕ) → v < 10 ^ suc m → length (decimal v) ≤ s
 unfolding decimal width
 decimal_length m v h = rw (numeral_length 10 (width v) v) (width_most 19 m v h)
 
--- the loop that counts them: n are counted, and rest is what is left of v
-pub record Counting (v n rest : ℕ) : Type 0 where
-  pub small : rest < 4294967296
-  pub same : n + width rest ≡ width v + 1
-  pub some : 1 ≤ width rest
-  pub most : width v ≤ 20
-
-pub counting_start : (v : ℕ) → v < 4294967296 → Counting v 1 v
+-- they are one more than the power of ten that v reaches; 0 has one too
+pub width_log : (v m : ℕ) {k : ℕ} → v < 4294967296 → m ≡ max v 1 → 10 ^ k ≤ m → m < 10 * 10 ^ k → k < 10 → (k + 1 ≡ width v) × (k + 1 ≤ 20)
 unfolding width
-counting_start v h = record { small = h; same = omega arith; some = width_some 19 v; most = width_most 19 19 v (omega arith) }
-
-pub counting_more : {v n rest : ℕ} → Counting v n rest → 10 ≤ rest → Counting v (n + 1) (rest / 10)
-unfolding width
-counting_more {v} {n} {rest} c h =
-    let l : rest < 4294967296 = c.small in
-    let e : n + width rest ≡ width v + 1 = c.same in
-    let w : width rest ≡ suc (width (rest / 10)) = width_large 18 rest h ∙ ap suc (sym (width_room 18 (rest / 10) (omega arith))) in
-    record { small = omega arith; same = omega arith; some = width_some 19 (rest / 10); most = c.most }
-
-pub counting_end : {v n rest : ℕ} → Counting v n rest → rest < 10 → (n ≡ width v) × (n ≤ 20)
-unfolding width
-counting_end {v} {n} {rest} c h =
-    let e : n + width rest ≡ width v + 1 = c.same in
-    let w : width rest ≡ 1 = width_small 18 rest h in
-    let m : width v ≤ 20 = c.most in
+width_log v m {k} small e low high few =
+    let most : width v ≤ suc k = width_most 19 k v (rw pow-suc (omega arith)) in
+    let some : 1 ≤ width v = width_some 19 v in
+    let reached : k < width v =
+    by_cases (dec_lt k (width v)) (λ h. h)
+    (λ h.
+    let ten : 10 ^ 1 ≤ 10 ^ width v = pow-le-pow_right {n = 10} (omega arith) some in
+    let up : 10 ^ width v ≤ 10 ^ k = pow-le-pow_right {n = 10} (omega arith) (omega arith) in
+    let fits : v < 10 ^ width v = width_fits 19 v (omega arith) in
+    absurd (omega arith)) in
     (omega arith, omega arith)
 
 -- THE LOOP THAT WRITES THEM, from the last to the first: i of them are left, those of rest

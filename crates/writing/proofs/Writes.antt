@@ -6,7 +6,7 @@ use native.Mathlib.Decide.{dec_lt}
 use native.Mathlib.Nat.{add-zero, add-suc, suc-add}
 use native.Mathlib.Omega.{arith}
 use lib.ListN.{length, take, drop, get_or, set, length-append, length-set, take-append-drop, drop_of_length-le}
-use lib.Seq.{sets, length-sets, take_all, take-nil, take-suc-set, drop-set-lt, set_out, set_comm}
+use lib.Seq.{drop-drop, sets, length-sets, take_all, take-nil, take-suc-set, drop-set-lt, set_out, set_comm}
 use Rattle.scan.specs.Lists.{part}
 use Rattle.scan.proofs.Bools.{by_cases}
 use Rattle.scan.proofs.Parts.{part_length}
@@ -103,6 +103,10 @@ wrote_front {b} {d} {t} {next} w h =
 pub wrote_past : (b : List ℕ) (at : ℕ) (t : List ℕ) → length b < at → Wrote b at t b (length b + 1)
 wrote_past b at t h = record { is = sym (written_past b at t (omega arith)); place = omega arith }
 
+-- a text that fits, in the place of as many bytes
+pub wrote_all : {b t m : List ℕ} {at n : ℕ} → at + length t ≤ length b → n ≡ length t → m ≡ t → Wrote b at t (take at b ++ (m ++ drop n (drop at b))) (at + length t)
+wrote_all {b} {t} {m} {at} {n} h e same = rw (same, e) (record { is = rw (drop-drop (length t) at b) (sym (written_fits b at t h)); place = omega arith })
+
 -- A loop that stores a text: what is left of it, stored from place at + i on, makes the buffer that is wanted.
 pub record Storing (b : List ℕ) (at : ℕ) (t d : List ℕ) (i : ℕ) : Type 0 where
   pub kept : length d ≡ length b
@@ -118,9 +122,6 @@ storing_more {b} {t} {d} {at} {i} s h =
       kept = length-set d (at + i) (get_or t i 0) ∙ s.kept;
       same = rw n (sym (turn (sets d (at + i)) t i 0 h) ∙ s.same);
     }
-
-pub storing_end : {b t d : List ℕ} {at i : ℕ} → Storing b at t d i → length t ≤ i → at + length t ≤ length b → Wrote b at t d (at + length t)
-storing_end {b} {t} {d} {at} {i} s h f = record { is = sym (end (sets d (at + i)) t i h) ∙ s.same; place = omega arith }
 
 pub storing_some : {b t d : List ℕ} {at i : ℕ} → Storing b at t d i → length t ≤ i → d ≡ written b at t
 storing_some {b} {t} {d} {at} {i} s h = sym (end (sets d (at + i)) t i h) ∙ s.same

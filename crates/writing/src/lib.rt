@@ -26,12 +26,9 @@ fn put_all(buf: &mut [u8], at: usize, t: &[u8]) -> usize
     requires { at + length t.now ≤ length buf.old }
     ensures { Wrote buf.old at t.now buf.new result }
 {
-    let mut i = 0;
-    while i < t.len() {
-        buf[at + i] = t[i];
-        i += 1;
-    }
-    at + t.len()
+    let end = at + t.len();
+    buf[at..end].copy_from_slice(t);
+    end
 }
 
 // Stores a byte at a place, or nothing where the buffer ends before it.
@@ -48,10 +45,8 @@ fn put_some(buf: &mut [u8], at: usize, t: &[u8])
     requires { at ≤ length buf.old }
     ensures { buf.new ≡ written buf.old at t.now }
 {
-    let mut i = 0;
-    while i < t.len() {
-        store(buf, at + i, t[i]);
-        i += 1;
+    for (i, &x) in t.iter().enumerate() {
+        store(buf, at + i, x);
     }
 }
 
@@ -119,10 +114,8 @@ fn put_digits(buf: &mut [u8], at: usize, v: u32, base: u32, count: usize) -> usi
     if buf.len() < at {
         return buf.len() + 1;
     }
-    let mut i = count;
     let mut rest = v;
-    while 0 < i {
-        i -= 1;
+    for i in (0..count).rev() {
         store(buf, at + i, shown_digit(rest % base));
         rest = rest / base;
     }
@@ -133,13 +126,7 @@ fn put_digits(buf: &mut [u8], at: usize, v: u32, base: u32, count: usize) -> usi
 fn decimal_width(v: u32) -> usize
     ensures { (result ≡ width v) × (result ≤ 20) }
 {
-    let mut n = 1;
-    let mut rest = v;
-    while 10 <= rest {
-        rest = rest / 10;
-        n += 1;
-    }
-    n
+    v.max(1).ilog10() as usize + 1
 }
 
 // Puts the last `count` digits of v, which fit, from the last to the first.
@@ -147,10 +134,8 @@ fn put_fitting(buf: &mut [u8], at: usize, v: u32, base: u32, count: usize) -> us
     requires { (0 < base) × (base ≤ 16) × (at + count ≤ length buf.old) }
     ensures { Wrote buf.old at (numeral base count v) buf.new result }
 {
-    let mut i = count;
     let mut rest = v;
-    while 0 < i {
-        i -= 1;
+    for i in (0..count).rev() {
         buf[at + i] = shown_digit(rest % base);
         rest = rest / base;
     }

@@ -1,5 +1,6 @@
-use Rattle.writing.proofs.Writes.{storing_start}
+use borrow.Author.Rules.{rules}
+use Rattle.writing.proofs.Writes.{wrote_all}
 use Rattle.writing.proofs.put_all.Goals as goal
 
-pub loop-i-init : goal.loop-i-init
-loop-i-init c = search storing_start
+pub returns : goal.returns
+returns c = search (wrote_all, rules)
