@@ -1,4 +1,3 @@
-use Rattle.std.proofs.Common.{arith}
 use Rattle.writing.proofs.Numerals.{width_log}
 use Rattle.writing.proofs.decimal_width.Goals as goal
 

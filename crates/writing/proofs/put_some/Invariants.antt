@@ -1,5 +1,0 @@
-use Rattle.writing.proofs.Writes.{Storing}
-use Rattle.writing.proofs.put_some.Given as goal
-
-abbrev pub invariant-loop-i : goal.invariant-loop-i
-invariant-loop-i l = Storing l.initial.buf l.at l.t l.buf l.i
