@@ -6,6 +6,7 @@ mod puts;
 mod status;
 
 ghost use Rattle.writing.specs.Wrote.{Wrote, Puts};
+ghost use Rattle.scan.specs.Found.{text_at};
 ghost use Rattle.answer.specs.Answers.{setup_lines, play_lines, options_lines, lines_of, answer_text};
 
 use puts::{PUBLIC, part, put_cseq, put_numbered, put_session, put_transport, put_unsupported};
@@ -73,17 +74,17 @@ fn put_play(w: &mut Writer, a: Answer, host: &[u8])
 
 // The lines of an answer's kind, with the host or the Require value that it repeats.
 #[inline(always)]
-fn put_lines(w: &mut Writer, a: Answer, word: &[u8])
-    ensures { Puts w.old (lines_of word.now a) w.new }
+fn put_lines(w: &mut Writer, a: Answer, request: &[u8])
+    ensures { Puts w.old (lines_of (text_at request.now a.text) a) w.new }
 {
     match a.kind {
         Kind::Bare => {}
         Kind::Allow => w.text(b"Allow: OPTIONS\r\n"),
         Kind::Public => w.text(PUBLIC),
-        Kind::Unsupported => put_unsupported(w, word),
+        Kind::Unsupported => put_unsupported(w, part(request, a.text)),
         Kind::Options => put_options(w, a.session),
         Kind::Setup => put_setup(w, a),
-        Kind::Play => put_play(w, a, word),
+        Kind::Play => put_play(w, a, part(request, a.text)),
         Kind::Teardown => put_session(w, a.session, b"\r\n"),
     }
 }
@@ -94,7 +95,7 @@ fn put_answer(w: &mut Writer, a: Answer, request: &[u8])
 {
     put_status(w, a.status);
     put_cseq(w, request, a.cseq);
-    put_lines(w, a, part(request, a.text));
+    put_lines(w, a, request);
     w.text(b"\r\n");
 }
 

@@ -5,9 +5,10 @@ use Prim.Native.Nat.{ℕ, suc, ◌+◌, ◌-◌, ◌≤◌, ◌<◌, min}
 use native.Mathlib.Decide.{dec_lt}
 use native.Mathlib.Nat.{add-zero, add-suc, suc-add}
 use native.Mathlib.Omega.{arith}
-use lib.ListN.{length, take, drop, set, length-append, length-set, take-append-drop, drop_of_length-le}
+use lib.ListN.{length, take, drop, get_or, set, length-append, length-set, take-append-drop, drop_of_length-le}
 use lib.Seq.{drop-drop, sets, length-sets, take_all, take-nil, take-suc-set, drop-set-lt, set_out, set_comm}
 use Rattle.scan.proofs.Bools.{by_cases}
+use Rattle.scan.proofs.Loops.{turn, end}
 use Rattle.writing.specs.Wrote.{Wrote, Puts}
 use Rattle.writing.specs.declared.Writer.{Writer}
 use Rattle.writing.specs.Writing.{written}
@@ -124,10 +125,26 @@ wrote_front {b} {d} {t} {next} w h =
     let p : next ≡ min (0 + length t) (length b + 1) = w.place in
     (w.is ∙ written_fits b 0 t (omega arith) ∙ rw n, omega arith)
 
--- a text that fits, in the place of as many bytes, and as much as fits of one that does not
-pub written_all : (b : List ℕ) (at : ℕ) {t m : List ℕ} {n : ℕ} → at + length t ≤ length b → n ≡ length t → m ≡ t → take at b ++ (m ++ drop n (drop at b)) ≡ written b at t
-written_all b at {t} h e same = rw (same, e, drop-drop) (sym (written_fits b at t h))
+-- A loop that stores a text that fits: what is left of it, stored from place at + i on, makes the buffer that is wanted.
+pub record Storing (b : List ℕ) (at : ℕ) (t d : List ℕ) (i : ℕ) : Type 0 where
+  pub kept : length d ≡ length b
+  pub same : sets d (at + i) (drop i t) ≡ written b at t
 
+pub storing_start : (b : List ℕ) (at : ℕ) (t : List ℕ) → Storing b at t b 0
+storing_start b at t = record { kept = refl; same = rw add-zero (sym (written_sets b at t)) }
+
+pub storing_more : {b t d : List ℕ} {at i : ℕ} → Storing b at t d i → i < length t → Storing b at t (set d (at + i) (get_or t i 0)) (i + 1)
+storing_more {b} {t} {d} {at} {i} s h =
+    let n : at + (i + 1) ≡ suc (at + i) = omega arith in
+    record {
+      kept = length-set d (at + i) (get_or t i 0) ∙ s.kept;
+      same = rw n (sym (turn (sets d (at + i)) t i 0 h) ∙ s.same);
+    }
+
+pub storing_end : {b t d : List ℕ} {at i : ℕ} → Storing b at t d i → length t ≤ i → d ≡ written b at t
+storing_end {b} {t} {d} {at} {i} s h = sym (end (sets d (at + i)) t i h) ∙ s.same
+
+-- as much as fits of a text that does not
 pub written_some : (b : List ℕ) (at : ℕ) (t : List ℕ) {m : List ℕ} → at ≤ length b → length b - at < length t → m ≡ take (length b - at) t → take at b ++ (m ++ drop (length b - at) (drop at b)) ≡ written b at t
 unfolding written
 written_some b at t h l same =

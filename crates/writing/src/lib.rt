@@ -2,7 +2,7 @@
 // numbers, and writes each byte once.
 #![tactic(auto)]
 
-ghost use Rattle.std.specs.Prelude.{◌≡◌, ◌+◌, ◌≤◌, ◌<◌, length};
+ghost use Rattle.std.specs.Prelude.{◌≡◌, ◌+◌, ◌≤◌, ◌<◌, length, take};
 ghost use Rattle.writing.specs.Writing.{shown, numeral, width, decimal, hex8, dotted};
 ghost use Rattle.writing.specs.Wrote.{Wrote, Puts, starting, end_of};
 
@@ -30,7 +30,8 @@ impl<'a> Writer<'a> {
         self.at.min(self.buf.len() + 1)
     }
 
-    // Puts a text, as far as the buffer reaches.
+    // Puts a text, as far as the buffer reaches. By a loop: of a text of the program it becomes stores of numbers, where `copy_from_slice` tests at each call
+    // whether the two overlap, 22 to 54 instructions more in an answer.
     #[inline(always)]
     pub fn text(&mut self, t: &[u8])
         ensures { Puts self.old t.now self.new }
@@ -39,12 +40,15 @@ impl<'a> Writer<'a> {
         if len < at {
             return;
         }
-        self.at = at + t.len();
-        if t.len() <= len - at {
-            self.buf[at..at + t.len()].copy_from_slice(t);
-        } else {
-            self.buf[at..].copy_from_slice(&t[..len - at]);
+        if len - at < t.len() {
+            fill(&mut self.buf[at..], t);
+            self.at = at + t.len();
+            return;
         }
+        for (i, &x) in t.iter().enumerate() {
+            self.buf[at + i] = x;
+        }
+        self.at = at + t.len();
     }
 
     // Puts the last `count` digits of v, which fit, from the last to the first.
@@ -115,6 +119,15 @@ impl<'a> Writer<'a> {
         self.text(b".");
         self.decimal(address % 256);
     }
+}
+
+// Fills what is left of a buffer with the front of a text that does not fit.
+#[cold]
+fn fill(left: &mut [u8], t: &[u8])
+    requires { length left.old < length t.now }
+    ensures { left.new ≡ take (length left.old) t.now }
+{
+    left.copy_from_slice(&t[..left.len()]);
 }
 
 // The byte that shows a digit, upper-case.

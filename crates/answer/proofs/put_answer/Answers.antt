@@ -4,7 +4,7 @@ use Rattle.writing.specs.Writing.{decimal}
 use Rattle.answer.proofs.put_answer.Goals as goal
 
 pub returns : goal.returns
-returns c = rw (append_assoc (decimal _), c.part.ensures) at
+returns c = rw (append_assoc (decimal _)) at
     (c.put_status.ensures
     then c.put_cseq.ensures
     then c.put_lines.ensures

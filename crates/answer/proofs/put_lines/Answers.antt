@@ -9,3 +9,9 @@ returns-in-Allow c = rw c.in-Allow.is c.text.ensures
 
 pub returns-in-Public : goal.returns-in-Public
 returns-in-Public c = rw c.in-Public.is c.text-in-Public.ensures
+
+pub returns-in-Unsupported : goal.returns-in-Unsupported
+returns-in-Unsupported c = rw (c.in-Unsupported.is, ← c.part.ensures) c.put_unsupported.ensures
+
+pub returns-in-Play : goal.returns-in-Play
+returns-in-Play c = rw (c.in-Play.is, ← c.part-in-Play.ensures) c.put_play.ensures
