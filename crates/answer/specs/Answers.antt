@@ -1,10 +1,10 @@
 -- An answer as the code hands it over, by its kind: what the crates promise each other. No call of the box reaches these; a law ties them to what
 -- a request is answered with (`steps/proofs/ReplyLaws`). Assumes nothing.
-use Rattle.std.specs.Prelude.{ℕ, cond, List, [], ◌==◌, nat_lt}
+use Rattle.std.specs.Prelude.{ℕ, cond, List, [], ◌==◌}
 use Rattle.scan.specs.Text.{text, ◌&◌}
 use Rattle.scan.specs.Found.{text_at}
 use Rattle.writing.specs.Writing.{decimal}
-use Rattle.answer.specs.Lines.{reason_of, session_line, public_line, refused_lines, answer_lines, line, transport_line}
+use Rattle.answer.specs.Lines.{session_line, public_line, refused_lines, answer_lines, line, transport_line}
 use Rattle.answer.specs.declared.Kind.{Kind}
 use Rattle.answer.specs.declared.Kind.TheVariants.{Bare, Allow, Public, Unsupported, Options, Setup, Play, Teardown}
 use Rattle.answer.specs.declared.Answer.{Answer}
@@ -16,10 +16,6 @@ setup_lines session address port stream =
 
 abbrev pub play_lines : ℕ → List ℕ → ℕ → List ℕ
 play_lines session host stream = session_line session (text "\r\n") & text "RTP-Info: url=rtsp://" & host & line "/stream=" (decimal stream)
-
--- the reason of a status from a number on; none of those below it
-abbrev pub reason_from : ℕ → ℕ → List ℕ
-reason_from from status = cond (nat_lt status from) [] (text (reason_of status))
 
 -- the line of a status with a reason
 abbrev pub status_with : ℕ → List ℕ → List ℕ

@@ -5,16 +5,14 @@
 mod puts;
 mod status;
 
-ghost use Rattle.writing.specs.Wrote.{Wrote};
+ghost use Rattle.writing.specs.Wrote.{Wrote, Puts};
 ghost use Rattle.scan.specs.Found.{text_at};
 ghost use Rattle.answer.specs.Answers.{setup_lines, play_lines, options_lines, lines_of, answer_text};
 
-use puts::{
-    put_allow, put_cseq, put_part, put_public, put_session, put_session_line, put_stream,
-    put_stream_id, put_transport, put_unsupported,
-};
+use puts::{PUBLIC, part, put_cseq, put_numbered, put_session, put_transport, put_unsupported};
 use scan::Span;
 use status::put_status;
+use writing::Writer;
 
 // What an answer carries after its CSeq.
 #[derive(Clone, Copy)]
@@ -43,58 +41,69 @@ pub struct Answer {
     pub text: Span,
 }
 
-fn put_options(buf: &mut [u8], at: usize, a: Answer) -> usize
-    ensures { Wrote buf.old at (options_lines a.session) buf.new result }
+#[inline(always)]
+fn put_options(w: &mut Writer, session: u32)
+    ensures { Puts w.old (options_lines session) w.new }
 {
-    if a.session == 0 {
-        return put_public(buf, at);
+    if session == 0 {
+        w.text(PUBLIC);
+        return;
     }
-    let n = put_session_line(buf, at, a.session);
-    put_public(buf, n)
+    put_session(w, session, b"\r\n");
+    w.text(PUBLIC);
 }
 
-fn put_setup(buf: &mut [u8], at: usize, a: Answer) -> usize
-    ensures { Wrote buf.old at (setup_lines a.session a.address a.port a.stream) buf.new result }
+#[inline(always)]
+fn put_setup(w: &mut Writer, a: Answer)
+    ensures { Puts w.old (setup_lines a.session a.address a.port a.stream) w.new }
 {
-    let n = put_session(buf, at, a.session);
-    let m = writing::put_text(buf, n, b";timeout=60\r\n");
-    let k = put_transport(buf, m, a.address, a.port);
-    put_stream_id(buf, k, a.stream)
+    put_session(w, a.session, b";timeout=60\r\n");
+    put_transport(w, a.address, a.port);
+    put_numbered(w, b"com.ses.streamID: ", a.stream);
 }
 
-fn put_play(buf: &mut [u8], at: usize, a: Answer, request: &[u8]) -> usize
-    ensures { Wrote buf.old at (play_lines a.session (text_at request.now a.text) a.stream) buf.new result }
+#[inline(always)]
+fn put_play(w: &mut Writer, a: Answer, host: &[u8])
+    ensures { Puts w.old (play_lines a.session host.now a.stream) w.new }
 {
-    let n = put_session_line(buf, at, a.session);
-    let m = writing::put_text(buf, n, b"RTP-Info: url=rtsp://");
-    let k = put_part(buf, m, request, a.text);
-    put_stream(buf, k, a.stream)
+    put_session(w, a.session, b"\r\n");
+    w.text(b"RTP-Info: url=rtsp://");
+    w.text(host);
+    put_numbered(w, b"/stream=", a.stream);
 }
 
-// The lines of an answer's kind.
-fn put_lines(buf: &mut [u8], at: usize, a: Answer, request: &[u8]) -> usize
-    ensures { Wrote buf.old at (lines_of (text_at request.now a.text) a) buf.new result }
+// The lines of an answer's kind, with the host or the Require value that it repeats.
+#[inline(always)]
+fn put_lines(w: &mut Writer, a: Answer, request: &[u8])
+    ensures { Puts w.old (lines_of (text_at request.now a.text) a) w.new }
 {
-    let kind = a.kind;
-    match kind {
-        Kind::Bare => writing::put_text(buf, at, b""),
-        Kind::Allow => put_allow(buf, at),
-        Kind::Public => put_public(buf, at),
-        Kind::Unsupported => put_unsupported(buf, at, request, a.text),
-        Kind::Options => put_options(buf, at, a),
-        Kind::Setup => put_setup(buf, at, a),
-        Kind::Play => put_play(buf, at, a, request),
-        Kind::Teardown => put_session_line(buf, at, a.session),
+    match a.kind {
+        Kind::Bare => {}
+        Kind::Allow => w.text(b"Allow: OPTIONS\r\n"),
+        Kind::Public => w.text(PUBLIC),
+        Kind::Unsupported => put_unsupported(w, part(request, a.text)),
+        Kind::Options => put_options(w, a.session),
+        Kind::Setup => put_setup(w, a),
+        Kind::Play => put_play(w, a, part(request, a.text)),
+        Kind::Teardown => put_session(w, a.session, b"\r\n"),
     }
+}
+
+#[inline(always)]
+fn put_answer(w: &mut Writer, a: Answer, request: &[u8])
+    ensures { Puts w.old (answer_text request.now a) w.new }
+{
+    put_status(w, a.status);
+    put_cseq(w, request, a.cseq);
+    put_lines(w, a, request);
+    w.text(b"\r\n");
 }
 
 // Writes an answer to the front of a buffer and returns its length, or one more than the buffer's where it does not fit.
 pub fn write(buf: &mut [u8], a: Answer, request: &[u8]) -> usize
     ensures { Wrote buf.old 0 (answer_text request.now a) buf.new result }
 {
-    let cseq = a.cseq;
-    let n = put_status(buf, 0, a.status);
-    let m = put_cseq(buf, n, request, cseq);
-    let k = put_lines(buf, m, a, request);
-    writing::put_text(buf, k, b"\r\n")
+    let mut w = Writer::new(buf);
+    put_answer(&mut w, a, request);
+    w.end()
 }

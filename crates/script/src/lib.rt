@@ -5,13 +5,14 @@
 
 ghost use Rattle.std.specs.Io.{ReadsAtMost};
 ghost use Rattle.std.specs.Prelude.{◌≡◌};
-ghost use Rattle.writing.specs.Wrote.{Wrote};
+ghost use Rattle.writing.specs.Wrote.{Wrote, Puts};
 ghost use Rattle.scan.specs.Text.{before, after, place_among};
 ghost use Rattle.std.specs.Iterator.{YieldsFirstRef, item_count};
 ghost use Rattle.script.specs.Lines.{lines_of, line_at, stands_for, unfolded};
 
 use scan::{Case, Class};
 use std::io::{self, Read};
+use writing::Writer;
 
 // Reads until a buffer is full or the input ends, and returns how many bytes are at the buffer's front. A read that fails ends it with that error;
 // what the buffer's front then holds is not said.
@@ -84,14 +85,22 @@ impl<'a> Words<'a> {
     }
 }
 
-// Puts what one byte stands for, and returns the place after it.
-fn unfold_byte(buf: &mut [u8], at: usize, b: u8) -> usize
-    ensures { Wrote buf.old at (stands_for b) buf.new result }
+// Puts what one byte stands for.
+fn put_byte(w: &mut Writer, b: u8)
+    ensures { Puts w.old (stands_for b) w.new }
 {
     match b {
-        b'|' => writing::put(buf, at, b"\r\n"),
-        b'^' => writing::put(buf, at, &[b'a'; 100]),
-        _ => writing::put(buf, at, &[b]),
+        b'|' => w.text(b"\r\n"),
+        b'^' => w.text(&[b'a'; 100]),
+        _ => w.text(&[b]),
+    }
+}
+
+fn put_unfolded(w: &mut Writer, s: &[u8])
+    ensures { Puts w.old (unfolded s.now) w.new }
+{
+    for &b in s {
+        put_byte(w, b);
     }
 }
 
@@ -100,11 +109,9 @@ fn unfold_byte(buf: &mut [u8], at: usize, b: u8) -> usize
 pub fn unfold(buf: &mut [u8], s: &[u8]) -> usize
     ensures { Wrote buf.old 0 (unfolded s.now) buf.new result }
 {
-    let mut at = 0;
-    for &b in s {
-        at = unfold_byte(buf, at, b);
-    }
-    at
+    let mut w = Writer::new(buf);
+    put_unfolded(&mut w, s);
+    w.end()
 }
 
 // The place of a text among words that have a space between each two; how many words there are where it is none of them.

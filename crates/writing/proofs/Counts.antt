@@ -7,7 +7,7 @@ use native.Mathlib.Omega.{arith}
 use lib.ListN.{length, length-append}
 use Rattle.writing.specs.Writing.{decimal, width}
 use Rattle.writing.specs.Wrote.{Wrote}
-use Rattle.writing.proofs.Writes.{◌then◌, wrote_as}
+use Rattle.writing.proofs.Writes.{wrote_then, wrote_as}
 use Rattle.writing.proofs.Numerals.{numeral_length}
 
 -- THE WALK THAT COUNTS: n bytes of the text t are counted, and rest is what is left of it
@@ -34,7 +34,7 @@ decimal_counts v = numeral_length 10 (width v) v
 -- THE WALK THAT WRITES: what was counted is put first, by any text of a number, and the text itself behind it
 pub counted_first : {b d f t : List ℕ} {at m next n : ℕ} (head : ℕ → List ℕ) → n ≡ length t → Wrote b at (head n) d m → Wrote d m t f next
     → Wrote b at (head (length t) ++ t) f next
-counted_first head e p q = wrote_as (ap head e) p then q
+counted_first head e p q = wrote_then (wrote_as (ap head e) p) q
 
 -- a place within the buffer tells how many bytes were written
 pub wrote_counts : {b d t : List ℕ} {at next : ℕ} → Wrote b at t d next → next ≤ length b → next ≡ at + length t

@@ -3,19 +3,18 @@
 use mathlib.Core.Path.{◌≡◌, refl, sym, ap, ap₂, ◌∙◌}
 use mathlib.Core.Bool.{Bool, true, false, ◌&&◌, and-false}
 use mathlib.Core.List.{List, [], ◌∷◌, ◌++◌, map}
-use Prim.Native.Nat.{ℕ, zero, suc, ◌+◌, ◌-◌, ◌/◌, ◌%◌, ◌^◌, ◌≤◌, ◌<◌, min}
+use Prim.Native.Nat.{ℕ, zero, suc, ◌+◌, ◌/◌, ◌%◌, ◌^◌, ◌≤◌, ◌<◌, ◌*◌, max}
 use native.Mathlib.Decide.{dec_lt}
 use native.Mathlib.Nat.{pow-suc, div-lt_iff_lt-mul, mod-lt, mod-eq_of_lt, pow-le-pow_right}
 use native.Mathlib.Omega.{arith}
 use lib.Dec.{ltb}
 use lib.ListN.{length, get_or, set, length-append, length-map, length-set, get_or-append}
-use lib.Seq.{sets}
+use lib.Seq.{sets, set_out}
 use borrow.Author.Tests.{le-leb, lt-leb, lt-ltb, le-ltb, ne_eqb}
 use Rattle.scan.proofs.Bools.{by_cases}
 use Rattle.scan.specs.Text.{text, ◌&◌}
 use Rattle.digits.specs.Reading.{digits_in, value_in, digit_of, are_digits, spelled, read_in, has_leading_zero, read_number, read_hex8}
 use Rattle.writing.specs.Writing.{shown, numeral, width_in, width, decimal, hex8, dotted, written}
-use Rattle.writing.specs.Wrote.{Wrote}
 use Rattle.digits.specs.declared.Zeros.{Zeros}
 use Rattle.digits.specs.declared.Zeros.TheVariants.{Allowed, Refused}
 use Rattle.std.specs.Prelude.{Some}
@@ -83,31 +82,19 @@ pub decimal_length : (m v : ℕ) → v < 10 ^ suc m → length (decimal v) ≤ s
 unfolding decimal width
 decimal_length m v h = rw (numeral_length 10 (width v) v) (width_most 19 m v h)
 
--- the loop that counts them: n are counted, and rest is what is left of v
-pub record Counting (v n rest : ℕ) : Type 0 where
-  pub small : rest < 4294967296
-  pub same : n + width rest ≡ width v + 1
-  pub some : 1 ≤ width rest
-  pub most : width v ≤ 20
-
-pub counting_start : (v : ℕ) → v < 4294967296 → Counting v 1 v
+-- they are one more than the power of ten that v reaches; 0 has one too
+pub width_log : (v m : ℕ) {k : ℕ} → v < 4294967296 → m ≡ max v 1 → 10 ^ k ≤ m → m < 10 * 10 ^ k → k < 10 → (k + 1 ≡ width v) × (k + 1 ≤ 20)
 unfolding width
-counting_start v h = record { small = h; same = omega arith; some = width_some 19 v; most = width_most 19 19 v (omega arith) }
-
-pub counting_more : {v n rest : ℕ} → Counting v n rest → 10 ≤ rest → Counting v (n + 1) (rest / 10)
-unfolding width
-counting_more {v} {n} {rest} c h =
-    let l : rest < 4294967296 = c.small in
-    let e : n + width rest ≡ width v + 1 = c.same in
-    let w : width rest ≡ suc (width (rest / 10)) = width_large 18 rest h ∙ ap suc (sym (width_room 18 (rest / 10) (omega arith))) in
-    record { small = omega arith; same = omega arith; some = width_some 19 (rest / 10); most = c.most }
-
-pub counting_end : {v n rest : ℕ} → Counting v n rest → rest < 10 → (n ≡ width v) × (n ≤ 20)
-unfolding width
-counting_end {v} {n} {rest} c h =
-    let e : n + width rest ≡ width v + 1 = c.same in
-    let w : width rest ≡ 1 = width_small 18 rest h in
-    let m : width v ≤ 20 = c.most in
+width_log v m {k} small e low high few =
+    let most : width v ≤ suc k = width_most 19 k v (rw pow-suc (omega arith)) in
+    let some : 1 ≤ width v = width_some 19 v in
+    let reached : k < width v =
+    by_cases (dec_lt k (width v)) (λ h. h)
+    (λ h.
+    let ten : 10 ^ 1 ≤ 10 ^ width v = pow-le-pow_right {n = 10} (omega arith) some in
+    let up : 10 ^ width v ≤ 10 ^ k = pow-le-pow_right {n = 10} (omega arith) (omega arith) in
+    let fits : v < 10 ^ width v = width_fits 19 v (omega arith) in
+    absurd (omega arith)) in
     (omega arith, omega arith)
 
 -- THE LOOP THAT WRITES THEM, from the last to the first: i of them are left, those of rest
@@ -120,31 +107,28 @@ pub numbering_start : (b : List ℕ) (at base count v : ℕ) → Numbering b at 
 numbering_start b at base count v =
     record { kept = refl; inside = omega arith; same = sym (written_sets b at (numeral base count v)) }
 
-pub numbering_more : {b d f : List ℕ} {at base count v i rest x : ℕ} → Numbering b at base count v d i rest → 0 < i → x ≡ shown (rest % base) → f ≡ set d (at + (i - 1)) x
-    → Numbering b at base count v f (i - 1) (rest / base)
-numbering_more {b} {d} {f} {at} {base} {count} {v} {i} {rest} {x} n h e q =
-    let j : i ≡ suc (i - 1) = omega arith in
+pub numbering_more : {b d f : List ℕ} {at base count v i j rest x : ℕ} → Numbering b at base count v d i rest → i ≡ suc j → x ≡ shown (rest % base) → f ≡ set d (at + j) x
+    → Numbering b at base count v f j (rest / base)
+numbering_more {b} {d} {f} {at} {base} {count} {v} {i} {j} {rest} {x} n k e q =
     let s : i ≤ count = n.inside in
-    let t : numeral base i rest ≡ numeral base (i - 1) (rest / base) ++ (x ∷ []) = ap (λ k. numeral base k rest) j ∙ rw e (numeral_more base (i - 1) rest) in
-    let l : length (numeral base (i - 1) (rest / base)) ≡ i - 1 = numeral_length base (i - 1) (rest / base) in
+    let t : numeral base i rest ≡ numeral base j (rest / base) ++ (x ∷ []) = rw (k, e) (numeral_more base j rest) in
+    let l : length (numeral base j (rest / base)) ≡ j = numeral_length base j (rest / base) in
     record {
-      kept = rw q (length-set d (at + (i - 1)) x ∙ n.kept);
+      kept = rw q (length-set d (at + j) x ∙ n.kept);
       inside = omega arith;
-      same = rw q (sym (ap (sets d at) t ∙ sets_last d at (numeral base (i - 1) (rest / base)) x ∙ rw l) ∙ n.same);
+      same = rw q (sym (ap (sets d at) t ∙ sets_last d at (numeral base j (rest / base)) x ∙ rw l) ∙ n.same);
     }
 
-pub numbering_end : {b d : List ℕ} {at base count v i rest next : ℕ} → Numbering b at base count v d i rest → i ≤ 0 → next ≡ min (at + count) (length d + 1)
-    → Wrote b at (numeral base count v) d next
-unfolding numeral
-numbering_end {b} {d} {at} {base} {count} {v} {i} {rest} {next} n h e =
-    let z : i ≡ 0 = omega arith in
-    let k : length d ≡ length b = n.kept in
-    let l : length (numeral base count v) ≡ count = numeral_length base count v in
-    record { is = (rw z at n.same); place = omega arith }
+-- a digit behind the buffer's end is left out
+pub numbering_out : {b d : List ℕ} {at base count v i j rest : ℕ} → Numbering b at base count v d i rest → i ≡ suc j → length b ≤ at + j → Numbering b at base count v d j (rest / base)
+numbering_out {d = d} {at} {base} {j = j} {rest = rest} n k h = numbering_more n k refl (sym (set_out d (at + j) (shown (rest % base)) (rw n.kept h)))
 
-pub numbering_fits : {b d : List ℕ} {at base count v i rest : ℕ} → Numbering b at base count v d i rest → i ≤ 0 → at + count ≤ length b
-    → Wrote b at (numeral base count v) d (at + count)
-numbering_fits n h f = numbering_end n h (rw n.kept (omega arith))
+pub numbering_end : {b d : List ℕ} {at base count v i rest : ℕ} → Numbering b at base count v d i rest → i ≤ 0 → d ≡ written b at (numeral base count v)
+unfolding numeral
+numbering_end {d = d} {at = at} {i = i} n h = let z : i ≡ 0 = omega arith in rw z at n.same
+
+pub numbering_put : {b d : List ℕ} {at base count v i rest : ℕ} → Numbering b at base count v b i rest → d ≡ written b at (numeral base i rest) → d ≡ written b at (numeral base count v)
+numbering_put {b} {at = at} n e = e ∙ written_sets b at _ ∙ n.same
 
 -- WHAT IS WRITTEN IS READ BACK
 digit_shown : (d : ℕ) → d < 16 → digit_of (shown d) ≡ d
@@ -234,20 +218,9 @@ read_decimal zeros m limit v h l r =
     read_bare zeros (suc m) limit (decimal v) (decimal_bare v fits)
     ∙ read_numeral 10 (omega arith) (omega arith) (suc m) limit (width v) v (width_some 19 v) (width_most 19 m v (omega arith)) (width_fits 19 v fits) h
 
--- the digits that were put, by their names
-pub wrote_decimal : {b d : List ℕ} {at next n : ℕ} (v : ℕ) → n ≡ width v → Wrote b at (numeral 10 n v) d next → Wrote b at (decimal v) d next
-unfolding decimal
-wrote_decimal v e w = rw e at w
-
-pub wrote_digit : {b : List ℕ} {at v : ℕ} → v < 10 → at < length b → Wrote b at (decimal v) (set b at (48 + v)) (at + 1)
+pub decimal_digit : (v : ℕ) → v < 10 → decimal v ≡ (48 + v) ∷ []
 unfolding decimal width
-wrote_digit {b} {at} {v} h f =
-    let e : decimal v ≡ (48 + v) ∷ [] = rw (width_small 18 v h) (one_digit v h) in
-    rw e (record { is = sym (written_sets b at ((48 + v) ∷ [])); place = omega arith })
-
-pub wrote_hex8 : {b d : List ℕ} {at next : ℕ} (v : ℕ) → Wrote b at (numeral 16 8 v) d next → Wrote b at (hex8 v) d next
-unfolding hex8
-wrote_hex8 v w = w
+decimal_digit v h = rw (width_small 18 v h) (one_digit v h)
 
 pub dotted_octets : (a : ℕ)
     → dotted a ≡ decimal (a / 16777216) & text "." & decimal (a / 65536 % 256) & text "." & decimal (a / 256 % 256) & text "." & decimal (a % 256)

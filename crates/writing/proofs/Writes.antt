@@ -6,12 +6,11 @@ use native.Mathlib.Decide.{dec_lt}
 use native.Mathlib.Nat.{add-zero, add-suc, suc-add}
 use native.Mathlib.Omega.{arith}
 use lib.ListN.{length, take, drop, get_or, set, length-append, length-set, take-append-drop, drop_of_length-le}
-use lib.Seq.{sets, length-sets, take_all, take-nil, take-suc-set, drop-set-lt, set_out, set_comm}
-use Rattle.scan.specs.Lists.{part}
+use lib.Seq.{drop-drop, sets, length-sets, take_all, take-nil, take-suc-set, drop-set-lt, set_out, set_comm}
 use Rattle.scan.proofs.Bools.{by_cases}
-use Rattle.scan.proofs.Parts.{part_length}
 use Rattle.scan.proofs.Loops.{turn, end}
-use Rattle.writing.specs.Wrote.{Wrote}
+use Rattle.writing.specs.Wrote.{Wrote, Puts}
+use Rattle.writing.specs.declared.Writer.{Writer}
 use Rattle.writing.specs.Writing.{written}
 
 -- at a place past the end nothing is stored
@@ -72,9 +71,8 @@ written_then b at t u =
     written_sets (written b at t) (at + length t) u ∙ ap (λ d. sets d (at + length t) u) (written_sets b at t) ∙ sets_then b at t u ∙ sym (written_sets b at (t ++ u))
 
 -- two puts in a row are one put of the joined text
-infixr 60 ◌then◌
-pub ◌then◌ : {b d f : List ℕ} {at m next : ℕ} {t u : List ℕ} → Wrote b at t d m → Wrote d m u f next → Wrote b at (t ++ u) f next
-◌then◌ {b} {d} {f} {at} {m} {next} {t} {u} p q =
+pub wrote_then : {b d f : List ℕ} {at m next : ℕ} {t u : List ℕ} → Wrote b at t d m → Wrote d m u f next → Wrote b at (t ++ u) f next
+wrote_then {b} {d} {f} {at} {m} {next} {t} {u} p q =
     let k : length d ≡ length b = wrote_kept p in
     let n : length (t ++ u) ≡ length t + length u = length-append t u in
     let i : m ≡ min (at + length t) (length b + 1) = p.place in
@@ -88,6 +86,34 @@ pub ◌then◌ : {b d f : List ℕ} {at m next : ℕ} {t u : List ℕ} → Wrote
     in
     record { is = second ∙ both ∙ sets_then b at t u ∙ sym (written_sets b at (t ++ u)); place = omega arith }
 
+-- at a place past the end it is no matter how far past it is
+wrote_at : {b d t : List ℕ} {at next : ℕ} → Wrote b at t d next → Wrote b (min at (length b + 1)) t d next
+wrote_at {b} {d} {t} {at} {next} w =
+    by_cases (dec_lt (length b) at)
+    (λ h. record { is = w.is ∙ written_past b at t (omega arith) ∙ sym (written_past b (min at (length b + 1)) t (omega arith)); place = omega (arith, w.place) })
+    (λ h. let e : min at (length b + 1) ≡ at = omega arith in rw e w)
+
+-- WHAT A WRITER PUTS: two texts are one put of the joined text
+infixr 60 ◌then◌
+pub ◌then◌ : {w v u : Writer} {s t : List ℕ} → Puts w s v → Puts v t u → Puts w (s ++ t) u
+p then q = record { wrote = wrote_then p.wrote (wrote_at q.wrote); named = q.named ∙ p.named; lies = q.lies ∙ p.lies }
+
+pub puts : {w v : Writer} {t : List ℕ} → v.buf.now ≡ written w.buf.now w.at t → v.at ≡ w.at + length t → v.buf.ghost_name ≡ w.buf.ghost_name
+    → v.buf.ref_ptr ≡ w.buf.ref_ptr → Puts w t v
+puts {w} {v} {t} is at named lies =
+    let k : length v.buf.now ≡ length w.buf.now = ap length is ∙ written_length w.buf.now w.at t in
+    record { wrote = record { is = is; place = omega arith }; named = named; lies = lies }
+
+pub puts_none : (w : Writer) → Puts w [] w
+puts_none w = puts (sym (written_none w.buf.now w.at)) (omega arith) refl refl
+
+pub puts_past : (w : Writer) (t : List ℕ) → length w.buf.now < w.at → Puts w t w
+puts_past w t h =
+    record { wrote = record { is = sym (written_past w.buf.now w.at t (omega arith)); place = omega arith }; named = refl; lies = refl }
+
+pub puts_as : {w v : Writer} {t u : List ℕ} → t ≡ u → Puts w t v → Puts w u v
+puts_as {w} {v} e p = subst (λ x. Puts w x v) e p
+
 -- the contract of a put leaves one buffer and one place
 pub wrote_one : {b d f t : List ℕ} {at m n : ℕ} → Wrote b at t d m → Wrote b at t f n → (d ≡ f) × (m ≡ n)
 wrote_one p q = (p.is ∙ sym q.is, p.place ∙ sym q.place)
@@ -99,11 +125,7 @@ wrote_front {b} {d} {t} {next} w h =
     let p : next ≡ min (0 + length t) (length b + 1) = w.place in
     (w.is ∙ written_fits b 0 t (omega arith) ∙ rw n, omega arith)
 
--- past the end
-pub wrote_past : (b : List ℕ) (at : ℕ) (t : List ℕ) → length b < at → Wrote b at t b (length b + 1)
-wrote_past b at t h = record { is = sym (written_past b at t (omega arith)); place = omega arith }
-
--- A loop that stores a text: what is left of it, stored from place at + i on, makes the buffer that is wanted.
+-- A loop that stores a text that fits: what is left of it, stored from place at + i on, makes the buffer that is wanted.
 pub record Storing (b : List ℕ) (at : ℕ) (t d : List ℕ) (i : ℕ) : Type 0 where
   pub kept : length d ≡ length b
   pub same : sets d (at + i) (drop i t) ≡ written b at t
@@ -119,22 +141,15 @@ storing_more {b} {t} {d} {at} {i} s h =
       same = rw n (sym (turn (sets d (at + i)) t i 0 h) ∙ s.same);
     }
 
-pub storing_end : {b t d : List ℕ} {at i : ℕ} → Storing b at t d i → length t ≤ i → at + length t ≤ length b → Wrote b at t d (at + length t)
-storing_end {b} {t} {d} {at} {i} s h f = record { is = sym (end (sets d (at + i)) t i h) ∙ s.same; place = omega arith }
+pub storing_end : {b t d : List ℕ} {at i : ℕ} → Storing b at t d i → length t ≤ i → d ≡ written b at t
+storing_end {b} {t} {d} {at} {i} s h = sym (end (sets d (at + i)) t i h) ∙ s.same
 
-pub storing_some : {b t d : List ℕ} {at i : ℕ} → Storing b at t d i → length t ≤ i → d ≡ written b at t
-storing_some {b} {t} {d} {at} {i} s h = sym (end (sets d (at + i)) t i h) ∙ s.same
-
--- of a text that does not fit, as much as fits is put
-pub wrote_some : {b d t : List ℕ} {at room next : ℕ} → at ≤ length b → room ≡ length b - at → room < length t → Wrote b at (part 0 room t) d next → Wrote b at t d (length b + 1)
+-- as much as fits of a text that does not
+pub written_some : (b : List ℕ) (at : ℕ) (t : List ℕ) {m : List ℕ} → at ≤ length b → length b - at < length t → m ≡ take (length b - at) t → take at b ++ (m ++ drop (length b - at) (drop at b)) ≡ written b at t
 unfolding written
-wrote_some {b} {d} {t} {at} {room} a e h w =
-    let n : length (part 0 room t) ≡ room - 0 = part_length 0 room t (omega arith) in
-    let p : take (length b - at) (part 0 room t) ≡ part 0 room t = take_all (length b - at) (part 0 room t) (omega arith) in
-    let q : drop (at + length (part 0 room t)) b ≡ [] = drop_of_length-le b {i = at + length (part 0 room t)} (omega arith) in
-    let r : drop (at + length t) b ≡ [] = drop_of_length-le b {i = at + length t} (omega arith) in
-    let m : room - 0 ≡ length b - at = omega arith in
-    record { is = w.is ∙ rw (p, q, r, m); place = omega arith }
+written_some b at t h l same =
+    let n : at + (length b - at) ≡ length b = omega arith in
+    rw (same, drop-drop, n, drop_of_length-le b {i = length b} (omega arith), drop_of_length-le b {i = at + length t} (omega arith))
 
 -- the same text by another name
 pub wrote_as : {b d t u : List ℕ} {at next : ℕ} → t ≡ u → Wrote b at t d next → Wrote b at u d next

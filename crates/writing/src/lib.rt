@@ -2,101 +2,132 @@
 // numbers, and writes each byte once.
 #![tactic(auto)]
 
-ghost use Rattle.std.specs.Prelude.{◌≡◌, ◌+◌, ◌-◌, ◌≤◌, ◌<◌, min, length, set};
-ghost use Rattle.writing.specs.Writing.{shown, numeral, width, decimal, hex8, dotted, written};
-ghost use Rattle.writing.specs.Wrote.{Wrote};
+ghost use Rattle.std.specs.Prelude.{◌≡◌, ◌+◌, ◌≤◌, ◌<◌, length, take};
+ghost use Rattle.writing.specs.Writing.{shown, numeral, width, decimal, hex8, dotted};
+ghost use Rattle.writing.specs.Wrote.{Wrote, Puts, starting, end_of};
 
-// The bytes that a short text has at most.
-const SHORT: usize = 17;
+// A lent buffer, and the place in it where the next text is put. Behind what did not fit that is past the buffer's end, and nothing more is put.
+#[derive(Drop)]
+pub struct Writer<'a> {
+    buf: &'a mut [u8],
+    at: usize,
+}
 
-// The place after `count` bytes from place `at` on, or one past `len` where they do not fit.
-fn place_after(len: usize, at: usize, count: usize) -> usize
-    requires { (at ≤ len) × (len < 9223372036854775808) }
-    ensures { result ≡ min (at + count) (len + 1) }
-{
-    if len - at < count {
-        len + 1
-    } else {
-        at + count
+impl<'a> Writer<'a> {
+    // At the buffer's front.
+    #[inline(always)]
+    pub fn new(buf: &'a mut [u8]) -> Writer<'a>
+        ensures { result ≡ starting buf.entry }
+    {
+        Writer { buf, at: 0 }
+    }
+
+    // The place behind what was put; one past the buffer's length where it did not fit.
+    #[inline(always)]
+    pub fn end(&self) -> usize
+        ensures { result ≡ end_of self.now }
+    {
+        self.at.min(self.buf.len() + 1)
+    }
+
+    // Puts a text, as far as the buffer reaches. By a loop: of a text of the program it becomes stores of numbers, where `copy_from_slice` tests at each call
+    // whether the two overlap, 22 to 54 instructions more in an answer.
+    #[inline(always)]
+    pub fn text(&mut self, t: &[u8])
+        ensures { Puts self.old t.now self.new }
+    {
+        let (at, len) = (self.at, self.buf.len());
+        if len < at {
+            return;
+        }
+        if len - at < t.len() {
+            fill(&mut self.buf[at..], t);
+            self.at = at + t.len();
+            return;
+        }
+        for (i, &x) in t.iter().enumerate() {
+            self.buf[at + i] = x;
+        }
+        self.at = at + t.len();
+    }
+
+    // Puts the last `count` digits of v, which fit, from the last to the first.
+    #[inline(always)]
+    fn fitting(&mut self, v: u32, base: u32, count: usize)
+        requires { (0 < base) × (base ≤ 16) × (self.old.at + count ≤ length self.old.buf.now) }
+        ensures { Puts self.old (numeral base count v) self.new }
+    {
+        let at = self.at;
+        let mut rest = v;
+        for i in (0..count).rev() {
+            self.buf[at + i] = shown_digit(rest % base);
+            rest /= base;
+        }
+        self.at = at + count;
+    }
+
+    // Puts the last `count` digits of v, without those that do not fit.
+    #[inline(always)]
+    fn digits(&mut self, v: u32, base: u32, count: usize)
+        requires { (0 < base) × (base ≤ 16) × (count ≤ 20) }
+        ensures { Puts self.old (numeral base count v) self.new }
+    {
+        let (at, len) = (self.at, self.buf.len());
+        if len < at {
+            return;
+        }
+        if count <= len - at {
+            return self.fitting(v, base, count);
+        }
+        let mut rest = v;
+        for _ in len - at..count {
+            rest /= base;
+        }
+        self.fitting(rest, base, len - at);
+        self.at = at + count;
+    }
+
+    // Puts a number in decimal, without leading zeros.
+    #[inline(always)]
+    pub fn decimal(&mut self, v: u32)
+        ensures { Puts self.old (decimal v) self.new }
+    {
+        if v < 10 {
+            return self.text(&[b'0' + v as u8]);
+        }
+        self.digits(v, 10, decimal_width(v));
+    }
+
+    // Puts a number in eight upper-case hexadecimal digits.
+    #[tactic(auto, unfolding(crate::specs::Writing::hex8))]
+    #[inline(always)]
+    pub fn hex(&mut self, v: u32)
+        ensures { Puts self.old (hex8 v) self.new }
+    {
+        self.digits(v, 16, 8);
+    }
+
+    // Puts an address as its four octets in decimal with dots between them, the highest octet first.
+    pub fn dotted(&mut self, address: u32)
+        ensures { Puts self.old (dotted address) self.new }
+    {
+        self.decimal(address / 16777216);
+        self.text(b".");
+        self.decimal(address / 65536 % 256);
+        self.text(b".");
+        self.decimal(address / 256 % 256);
+        self.text(b".");
+        self.decimal(address % 256);
     }
 }
 
-// Puts a text that fits into the buffer at a place. A text of a known length is then stored without a loop.
-fn put_all(buf: &mut [u8], at: usize, t: &[u8]) -> usize
-    requires { at + length t.now ≤ length buf.old }
-    ensures { Wrote buf.old at t.now buf.new result }
+// Fills what is left of a buffer with the front of a text that does not fit.
+#[cold]
+fn fill(left: &mut [u8], t: &[u8])
+    requires { length left.old < length t.now }
+    ensures { left.new ≡ take (length left.old) t.now }
 {
-    let mut i = 0;
-    while i < t.len() {
-        buf[at + i] = t[i];
-        i += 1;
-    }
-    at + t.len()
-}
-
-// Stores a byte at a place, or nothing where the buffer ends before it.
-fn store(buf: &mut [u8], at: usize, x: u8)
-    ensures { buf.new ≡ set buf.old at x }
-{
-    if at < buf.len() {
-        buf[at] = x;
-    }
-}
-
-// Puts as much of a text as fits, byte by byte.
-fn put_some(buf: &mut [u8], at: usize, t: &[u8])
-    requires { at ≤ length buf.old }
-    ensures { buf.new ≡ written buf.old at t.now }
-{
-    let mut i = 0;
-    while i < t.len() {
-        store(buf, at + i, t[i]);
-        i += 1;
-    }
-}
-
-// Puts bytes of another buffer at a place of this one, as far as it reaches, and returns the place after them.
-pub fn put(buf: &mut [u8], at: usize, t: &[u8]) -> usize
-    ensures { Wrote buf.old at t.now buf.new result }
-{
-    let len = buf.len();
-    if len < at {
-        return len + 1;
-    }
-    let room = len - at;
-    if t.len() <= room {
-        put_all(buf, at, t)
-    } else {
-        put_all(buf, at, &t[0..room]);
-        len + 1
-    }
-}
-
-// The same of a short text, byte by byte where it does not fit.
-fn put_short(buf: &mut [u8], at: usize, t: &[u8]) -> usize
-    ensures { Wrote buf.old at t.now buf.new result }
-{
-    let end = buf.len();
-    if end < at {
-        return end + 1;
-    }
-    if t.len() <= end - at {
-        put_all(buf, at, t)
-    } else {
-        put_some(buf, at, t);
-        end + 1
-    }
-}
-
-// The same of a text of the program. A short one is nowhere read at a place that is not known when it is compiled, so that none of it stands on
-// the stack: its bytes are numbers in the instructions that store them.
-pub fn put_text(buf: &mut [u8], at: usize, t: &[u8]) -> usize
-    ensures { Wrote buf.old at t.now buf.new result }
-{
-    if SHORT < t.len() {
-        return put(buf, at, t);
-    }
-    put_short(buf, at, t)
+    left.copy_from_slice(&t[..left.len()]);
 }
 
 // The byte that shows a digit, upper-case.
@@ -111,91 +142,49 @@ fn shown_digit(d: u32) -> u8
     }
 }
 
-// Puts the last `count` digits of v, from the last to the first.
-fn put_digits(buf: &mut [u8], at: usize, v: u32, base: u32, count: usize) -> usize
-    requires { (0 < base) × (base ≤ 16) × (count ≤ 20) }
-    ensures { Wrote buf.old at (numeral base count v) buf.new result }
-{
-    if buf.len() < at {
-        return buf.len() + 1;
-    }
-    let mut i = count;
-    let mut rest = v;
-    while 0 < i {
-        i -= 1;
-        store(buf, at + i, shown_digit(rest % base));
-        rest = rest / base;
-    }
-    place_after(buf.len(), at, count)
-}
-
 // How many decimal digits v takes.
 fn decimal_width(v: u32) -> usize
     ensures { (result ≡ width v) × (result ≤ 20) }
 {
-    let mut n = 1;
-    let mut rest = v;
-    while 10 <= rest {
-        rest = rest / 10;
-        n += 1;
-    }
-    n
+    v.max(1).ilog10() as usize + 1
 }
 
-// Puts the last `count` digits of v, which fit, from the last to the first.
-fn put_fitting(buf: &mut [u8], at: usize, v: u32, base: u32, count: usize) -> usize
-    requires { (0 < base) × (base ≤ 16) × (at + count ≤ length buf.old) }
-    ensures { Wrote buf.old at (numeral base count v) buf.new result }
+// THE SAME AT A PLACE OF A BUFFER: each returns the place behind what it put, or one past the buffer's length where that did not fit. `put` is for
+// callers that put one text; the other four stay since the program `vectors` calls them and `promises` has a theorem of each.
+pub fn put(buf: &mut [u8], at: usize, t: &[u8]) -> usize
+    ensures { Wrote buf.old at t.now buf.new result }
 {
-    let mut i = count;
-    let mut rest = v;
-    while 0 < i {
-        i -= 1;
-        buf[at + i] = shown_digit(rest % base);
-        rest = rest / base;
-    }
-    at + count
+    let mut w = Writer { buf, at };
+    w.text(t);
+    w.end()
 }
 
-// Puts a number in decimal, without leading zeros.
+pub fn put_text(buf: &mut [u8], at: usize, t: &[u8]) -> usize
+    ensures { Wrote buf.old at t.now buf.new result }
+{
+    put(buf, at, t)
+}
+
 pub fn put_decimal(buf: &mut [u8], at: usize, v: u32) -> usize
     ensures { Wrote buf.old at (decimal v) buf.new result }
 {
-    if buf.len() < at {
-        return buf.len() + 1;
-    }
-    if buf.len() - at < 20 {
-        return put_digits(buf, at, v, 10, decimal_width(v));
-    }
-    if v < 10 {
-        buf[at] = b'0' + v as u8;
-        return at + 1;
-    }
-    put_fitting(buf, at, v, 10, decimal_width(v))
+    let mut w = Writer { buf, at };
+    w.decimal(v);
+    w.end()
 }
 
-// Puts a number in eight upper-case hexadecimal digits.
 pub fn put_hex(buf: &mut [u8], at: usize, v: u32) -> usize
     ensures { Wrote buf.old at (hex8 v) buf.new result }
 {
-    if buf.len() < at {
-        return buf.len() + 1;
-    }
-    if buf.len() - at < 8 {
-        return put_digits(buf, at, v, 16, 8);
-    }
-    put_fitting(buf, at, v, 16, 8)
+    let mut w = Writer { buf, at };
+    w.hex(v);
+    w.end()
 }
 
-// Puts an address as its four octets in decimal with dots between them, the highest octet first.
 pub fn put_dotted(buf: &mut [u8], at: usize, address: u32) -> usize
     ensures { Wrote buf.old at (dotted address) buf.new result }
 {
-    let n = put_decimal(buf, at, address / 16777216);
-    let n = put_text(buf, n, b".");
-    let n = put_decimal(buf, n, address / 65536 % 256);
-    let n = put_text(buf, n, b".");
-    let n = put_decimal(buf, n, address / 256 % 256);
-    let n = put_text(buf, n, b".");
-    put_decimal(buf, n, address % 256)
+    let mut w = Writer { buf, at };
+    w.dotted(address);
+    w.end()
 }

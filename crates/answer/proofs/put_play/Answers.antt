@@ -2,7 +2,7 @@ use Rattle.writing.proofs.Writes.{◌then◌}
 use Rattle.answer.proofs.put_play.Goals as goal
 
 pub returns : goal.returns
-returns c = c.put_session_line-n.ensures
-    then c.put_text-m.ensures
-    then c.put_part-k.ensures
-    then c.put_stream.ensures
+returns c = c.put_session.ensures
+    then c.text.ensures
+    then c.text-2.ensures
+    then c.put_numbered.ensures

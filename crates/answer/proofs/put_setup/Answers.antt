@@ -2,6 +2,6 @@ use Rattle.writing.proofs.Writes.{◌then◌}
 use Rattle.answer.proofs.put_setup.Goals as goal
 
 pub returns : goal.returns
-returns c = (c.put_session-n.ensures then c.put_text-m.ensures)
-    then c.put_transport-k.ensures
-    then c.put_stream_id.ensures
+returns c = c.put_session.ensures
+    then c.put_transport.ensures
+    then c.put_numbered.ensures

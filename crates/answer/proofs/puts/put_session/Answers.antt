@@ -2,4 +2,6 @@ use Rattle.writing.proofs.Writes.{◌then◌}
 use Rattle.answer.proofs.puts.put_session.Goals as goal
 
 pub returns : goal.returns
-returns c = search ◌then◌
+returns c = c.text.ensures
+    then c.hex.ensures
+    then c.text-2.ensures

@@ -1,5 +1,0 @@
-use Rattle.writing.proofs.Writes.{◌then◌}
-use Rattle.answer.proofs.puts.put_second.Goals as goal
-
-pub returns : goal.returns
-returns c = search ◌then◌

@@ -1,8 +1,0 @@
-use Rattle.writing.proofs.Numerals.{Numbering}
-use Rattle.writing.proofs.put_digits.Given as goal
-
-abbrev pub invariant-loop-i : goal.invariant-loop-i
-invariant-loop-i l = Numbering l.initial.buf l.at l.base l.count l.v l.buf l.i l.rest
-
-abbrev pub decreases-loop-i : goal.decreases-loop-i
-decreases-loop-i l = l.i
