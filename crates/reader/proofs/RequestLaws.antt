@@ -1,6 +1,6 @@
 -- A request's refusal: which of the tests of steps 1 to 6 applies first, and then its URI's. Assumes nothing.
 use mathlib.Core.Path.{◌≡◌, refl, ap, ◌∙◌, sym}
-use mathlib.Core.Bool.{Bool, true, false, cond}
+use mathlib.Core.Bool.{Bool, true, false, cond, ◌||◌}
 use mathlib.Core.List.{List, []}
 use Prim.Native.Nat.{ℕ, zero, suc, ◌+◌, ◌-◌, ◌≤◌, ◌<◌, min}
 use native.Mathlib.Omega.{arith}
@@ -20,8 +20,9 @@ use Rattle.digits.specs.Standing.{Stands, digits_at}
 use Rattle.digits.proofs.Limits.{are_digits_law}
 use Rattle.lines.specs.Lines.{is_laid_out, request_line, header_lines}
 use Rattle.lines.specs.Headers.{values_of}
-use Rattle.lines.specs.Laid.{first_value, times_of, place_of, first_seen, unseen, SeenIs, value_start, LinesAre}
-use Rattle.std.specs.Prelude.{Some, None, Option, is_some, unwrap_or}
+use Rattle.lines.specs.Laid.{first_value, times_of, first_seen, unseen, SeenIs, LinesAre}
+use Rattle.std.specs.Prelude.{Some, None, Option, MatchOption, is_some, unwrap_or, Result, Err}
+use Rattle.std.specs.Option.{ok_or}
 use Rattle.lines.specs.declared.Seen.{Seen}
 use Rattle.lines.specs.declared.Seen.TheVariants.{Never, Once, Again}
 use Rattle.lines.specs.declared.Lines.{Lines}
@@ -29,18 +30,17 @@ use Rattle.target.specs.Line.{is_three, line_part}
 use Rattle.target.specs.Steps.{PartsAre}
 use Rattle.target.specs.declared.Parts.{Parts}
 use Rattle.reader.specs.Fields.{session_of, transport_of}
-use Rattle.reader.specs.Heads.{CseqSeen, cseq_place, CseqIs, StandsIn, session_in, head_text, session_seen, are_twice, Begun, Headed, Passing, uri_start, refused_request, RequestIs, is_other, is_version, method_in, are_repeated}
+use Rattle.reader.specs.Heads.{CseqSeen, cseq_place, CseqIs, StandsIn, session_in, head_text, session_seen, are_twice, uri_start, IsMethod, AskedIs, RefusedIs, is_other, method_in}
 use Rattle.aim.specs.Aim.{uri_refusal}
 use Rattle.aim.specs.Found.{AimIs, Refuses}
 use Rattle.aim.proofs.AimLaws.{queried}
-use Rattle.refusals.specs.Refusals.{is_read, reading_rule}
-use Rattle.reader.specs.Request.{cseq_most, cseq_limit, cseq_of, method_of, uri_of, head_refusal, request_refusal}
+use Rattle.refusals.specs.Refusals.{is_read}
+use Rattle.reader.specs.Request.{cseq_most, cseq_limit, cseq_of, is_twice, method_of, uri_of, head_refusal, request_refusal}
 use Rattle.refusals.specs.declared.Refusal.{Refusal}
 use Rattle.refusals.specs.declared.Refusal.TheVariants.{Layout, CSeq, RequestLine, HeaderTwice, Version, Require}
 use Rattle.refusals.specs.declared.Refusal.TheVariants.{Method as OtherMethod}
 use Rattle.aim.specs.declared.Method.{Method}
 use Rattle.aim.specs.declared.Aim.{Aim}
-use Rattle.reader.specs.declared.Request.{Request}
 use Rattle.reader.specs.declared.fields.Session.{Session}
 use Rattle.reader.specs.declared.fields.Session.TheVariants.{Absent}
 
@@ -70,16 +70,11 @@ module _ {s : List ℕ} {vs : List (List ℕ)} {seen : Seen} (i : SeenIs s vs se
   pub seen_sent : ltb 0 (times_of seen) ≡ ltb 0 (length vs)
   seen_sent = rw i.times (capped (λ k n. ltb 0 k ≡ ltb 0 n) (length vs) refl refl (λ m h. rw (lt-ltb 0 m (omega arith))))
 
--- where the first value stands, if a header was sent
-first_there : (seen : Seen) {place : Span} → first_seen seen ≡ Some place → (ltb 0 (times_of seen) ≡ true) × (place_of seen ≡ place)
-first_there Never e = cc
-first_there (Once v) e = (refl, cc)
-first_there (Again v) e = (refl, cc)
-
-first_none : (seen : Seen) → first_seen seen ≡ None → ltb 0 (times_of seen) ≡ false
-first_none Never e = refl
-first_none (Once v) e = cc
-first_none (Again v) e = cc
+-- a header was sent if a first value stands there
+first_there : (seen : Seen) → is_some (first_seen seen) ≡ ltb 0 (times_of seen)
+first_there Never = refl
+first_there (Once v) = refl
+first_there (Again v) = refl
 
 pub first_session : (s : List ℕ) (seen : Seen) → first_seen seen ≡ None → Absent ≡ session_seen s seen
 first_session s Never e = refl
@@ -151,41 +146,58 @@ module _ {s : List ℕ} {seen : Seen} {place : Span} (o : seen ≡ Once place) (
         held = rw (cseq_is, ← value_is) w.holds;
       }
 
+-- HOW FAR IT HAS COME
+abbrev pub is_version : List ℕ → Bool
+is_version s = are_alike Counts (line_part 2 (request_line s)) (text "RTSP/1.0")
+
+abbrev pub are_repeated : List ℕ → Bool
+are_repeated s = is_twice 1 s || is_twice 2 s || is_twice 3 s || is_twice 4 s
+
+-- a request whose layout is whole and whose CSeq was read: past steps 1 and 2
+pub record Begun (s : List ℕ) (l : Lines) (cseq : Span) : Type 0 where
+  pub lines : LinesAre s l
+  pub cseq_is : CseqIs s cseq
+  pub some : is_empty (cseq_of s) ≡ false
+
+-- and whose request line has three parts and the right version, with no header twice and none required: past steps 3 to 5
+pub record Headed (s : List ℕ) (l : Lines) (cseq : Span) (parts : Parts) : Type 0 where
+  pub begun : Begun s l cseq
+  pub parts_are : PartsAre (part 0 l.line s) parts
+  pub once : are_repeated s ≡ false
+  pub version : is_version s ≡ true
+  pub free : ltb 0 (length (values_of 3 (header_lines s))) ≡ false
+  pub line_in : l.line ≤ length s
+  pub first_in : parts.first < parts.second
+  pub second_in : parts.second ≤ l.line
+
+pub begun : {s : List ℕ} {l : Lines} {c : Span} → LinesAre s l → CseqIs s c → c.start < c.end → Begun s l c
+begun l i h = record { lines = l; cseq_is = i; some = cseq_some i h }
+
+-- what is missing is refused as the caller says
+pub none_handed : {A E : Type 0} (P : Type 0) (Q : A → Type 0) {o : Option A} {x e y : E} → MatchOption o P Q → o ≡ None → Err e ≡ ok_or o x → y ≡ e → P × (y ≡ x)
+none_handed {A} {E} P Q {x = x} {e} h z v u =
+    let w : ◌≡◌ {A = Result A E} (Err e) (Err x) = v ∙ ap (λ p. ok_or p x) z in
+    (rw z at h, cc)
+
 -- REFUSED REQUESTS
-pub request_refused : {frontends : ℕ} {s : List ℕ} {r : Request} {x : Refusal} {c v : Span}
-    → (head_refusal s ≡ Some Require → Holds s (first_value (values_of 3 (header_lines s))) v.start v.end × (v.start ≡ value_start 3 s))
-    → ((head_refusal s ≡ Some Require → ⊥) → v ≡ nowhere) → Some x ≡ request_refusal frontends s → CseqIs s c
-    → r ≡ refused_request x c v → RequestIs frontends s r
-request_refused {x = x} k u e d q =
-    rw q
-    (record {
-      refusal = e;
-      cseq = d;
-      require = λ y. (k y).0;
-      require_starts = λ y. (k y).1;
-      unrequired = u;
-      method = λ y. cc;
-      stream = λ y. cc;
-      host = λ y. cc;
-      query = λ y. cc;
-      codes = λ y. cc;
-      spans = λ y. cc;
-      host_starts = λ y. cc;
-      query_starts = λ y. cc;
-      starts = λ y. cc;
-      session = λ y. cc;
-      transport = λ y. cc;
-      refused = λ z y. let o : x ≡ z = cc in rw (← o);
-    })
-
--- by one of steps 1 to 6, and not by the fifth, which also hands out a value
-pub head_refused : {frontends : ℕ} {s : List ℕ} {r : Request} {x : Refusal} {c : Span} → head_refusal s ≡ Some x → ((reading_rule x).0 ≡ 5 → ⊥) → CseqIs s c → r ≡ refused_request x c nowhere → RequestIs frontends s r
+-- by one of steps 1 to 6
+pub head_refused : (frontends : ℕ) (s : List ℕ) {x : Refusal} → head_refusal s ≡ Some x → request_refusal frontends s ≡ Some x
 unfolding request_refusal
-head_refused {x = x} h k d q = request_refused (λ z. let o : x ≡ Require = cc in absurd (k (ap (λ r. (reading_rule r).0) o))) (λ _. refl) (rw h) d q
+head_refused frontends s h = rw h
 
-pub request_broken : (s : List ℕ) → is_laid_out s ≡ false → (head_refusal s ≡ Some Layout) × CseqIs s nowhere
+request_broken : (s : List ℕ) → is_laid_out s ≡ false → (head_refusal s ≡ Some Layout) × CseqIs s nowhere
 unfolding head_refusal cseq_of
 request_broken s b = (rw b, cseq_none s (rw b))
+
+pub request_unlaid : (frontends : ℕ) (s : List ℕ) → is_laid_out s ≡ false → RefusedIs frontends s (record { refusal = Layout; cseq = nowhere; require = nowhere })
+request_unlaid frontends s b =
+    let r = request_broken s b in
+    let other : Layout ≡ Require → ⊥ = λ e. cc in
+    record {
+      refusal = head_refused frontends s r.0;
+      cseq = r.1;
+      require = record { value = λ e. absurd (other e); starts = λ e. absurd (other e); none = λ _. refl };
+    }
 
 module _ (s : List ℕ) {l : Lines} (i : LinesAre s l) where
   pub cseq_seen : CseqSeen s (get_or l.headers 0 unseen)
@@ -194,47 +206,6 @@ module _ (s : List ℕ) {l : Lines} (i : LinesAre s l) where
   pub request_uncounted : is_empty (cseq_of s) ≡ true → head_refusal s ≡ Some CSeq
   unfolding head_refusal
   request_uncounted n = rw (i.whole, n)
-
--- WHAT A REQUEST ASKS
-pub request_passed : {frontends : ℕ} {s : List ℕ} {l : Lines} {c : Span} {m : Method} {from : ℕ} {a : Aim} {x : Session} {y : Option ℕ} {v : Span} → Passing frontends s l c m from a
-    → x ≡ session_seen s (get_or l.headers 1 unseen) → y ≡ transport_of (head_text s (get_or l.headers 2 unseen)) → v ≡ nowhere
-    → RequestIs frontends s (record {
-      codes = a.codes;
-      spans = a.spans;
-      refusal = None;
-      cseq = c;
-      method = m;
-      stream = a.stream;
-      host = record { start = from + a.host.start; end = from + a.host.end };
-      query = record { start = from + (unwrap_or a.query nowhere).start; end = from + (unwrap_or a.query nowhere).end };
-      require = v;
-      session = x;
-      transport = y;
-    })
-unfolding request_refusal
-request_passed {s = s} {a = a} p e q u =
-    record {
-      refusal = sym p.passes;
-      cseq = p.cseq_is;
-      require = λ z. absurd (not_required z);
-      require_starts = λ z. absurd (not_required z);
-      unrequired = λ _. u;
-      method = λ _. p.method_is;
-      stream = λ _. p.stream;
-      host = λ _. p.host;
-      query = λ _. p.query;
-      codes = λ _. p.codes;
-      spans = λ _. p.spans;
-      host_starts = λ _. rw (p.from_is, p.host_starts);
-      query_starts = λ _. rw (p.from_is, p.query_starts);
-      starts = λ _. p.starts;
-      session = λ _. e ∙ seen_session p.session;
-      transport = λ _. q ∙ ap transport_of (seen_text p.transport);
-      refused = λ z n. cc;
-    }
-  where
-    not_required : head_refusal s ≡ Some Require → ⊥
-    not_required z = let w : is_read (request_refusal _ s) ≡ false = rw z in never (ap is_read p.passes) w
 
 -- what was read is not refused
 pub passed_is : (x : Option Refusal) → is_read x ≡ true → x ≡ None
@@ -272,26 +243,23 @@ module _ (frontends : ℕ) (s : List ℕ) {l : Lines} {c : Span} {p : Parts} (h 
         h.free,
       )
 
-  pub request_unmethoded : {m : Method} → m ≡ method_of s → {t : Bool} → t ≡ is_other m → t ≡ true → head_refusal s ≡ Some OtherMethod
-  request_unmethoded e q y = let o : is_other (method_of s) ≡ true = ap is_other (sym e) ∙ sym q ∙ y in rw (head_is, o)
+  pub request_unmethoded : is_other (method_in (part 0 p.first (part 0 l.line s))) ≡ true → head_refusal s ≡ Some OtherMethod
+  request_unmethoded y = let o : is_other (method_of s) ≡ true = rw (method_read refl) at y in rw (head_is, o)
 
-  module _ {m : Method} (e : m ≡ method_of s) {t : Bool} (q : t ≡ is_other m) (n : t ≡ false) where
+  module _ {m : Method} (w : IsMethod (part 0 p.first (part 0 l.line s)) m) where
+    e : m ≡ method_of s
+    e = method_read w.is
+
     passes : head_refusal s ≡ None
-    passes = let o : is_other (method_of s) ≡ false = ap is_other (sym e) ∙ sym q ∙ n in head_is ∙ rw o
+    passes = let o : is_other (method_of s) ≡ false = rw e at w.named in head_is ∙ rw o
 
     uri_aimed : uri_refusal frontends m (part (p.first + 1) p.second (part 0 l.line s)) ≡ request_refusal frontends s
     unfolding request_refusal
     uri_aimed = rw (passes, e, uri_held)
 
     -- refused by one of steps 7 to 10
-    pub request_unaimed : {x : Refusal} {r : Request} → Refuses frontends m (part (p.first + 1) p.second (part 0 l.line s)) x → r ≡ refused_request x c nowhere → RequestIs frontends s r
-    request_unaimed f d =
-        request_refused
-        (λ z. let w : None ≡ Some Require = sym passes ∙ z in cc)
-        (λ _. refl)
-        (sym f ∙ uri_aimed)
-        h.begun.cseq_is
-        d
+    pub request_unaimed : {x : Refusal} → Refuses frontends m (part (p.first + 1) p.second (part 0 l.line s)) x → request_refusal frontends s ≡ Some x
+    request_unaimed f = sym uri_aimed ∙ f
 
     moved : {ys : List ℕ} {j k : ℕ} → Holds (uri_of s) ys j k → Holds s ys (p.first + 1 + j) (p.first + 1 + k)
     moved {ys} {j} {k} x =
@@ -300,24 +268,37 @@ module _ (frontends : ℕ) (s : List ℕ) {l : Lines} {c : Span} {p : Parts} (h 
         (holds_inside 0 l.line s refl (omega arith) h.line_in
         (holds_inside (p.first + 1) p.second (part 0 l.line s) (sym uri_held) (omega (arith, h.first_in)) (omega (arith, h.second_in)) x))
 
-    pub request_passing : {a : Aim} → AimIs frontends m (part (p.first + 1) p.second (part 0 l.line s)) a → Passing frontends s l c m (p.first + 1) a
-    request_passing {a} i =
-        let own : AimIs frontends m (uri_of s) a = rw uri_held at i in
+    -- or by none
+    pub request_asked : {a : Aim} {x : Session} {y : Option ℕ} → AimIs frontends m (part (p.first + 1) p.second (part 0 l.line s)) a
+        → x ≡ session_seen s (get_or l.headers 1 unseen) → y ≡ transport_of (head_text s (get_or l.headers 2 unseen))
+        → AskedIs frontends s (record {
+          codes = a.codes;
+          spans = a.spans;
+          cseq = c;
+          method = m;
+          stream = a.stream;
+          host = record { start = p.first + 1 + a.host.start; end = p.first + 1 + a.host.end };
+          query = record { start = p.first + 1 + (unwrap_or a.query nowhere).start; end = p.first + 1 + (unwrap_or a.query nowhere).end };
+          session = x;
+          transport = y;
+        })
+    request_asked {a} d x y =
+        let i : AimIs frontends m (uri_of s) a = rw uri_held at d in
         record {
-          passes = sym uri_aimed ∙ i.passes;
-          cseq_is = h.begun.cseq_is;
-          method_is = e;
-          stream = own.stream;
-          host = moved own.host;
-          query = moved (queried own).0;
-          codes = own.codes;
-          spans = own.spans;
-          from_is = uri_starts;
-          host_starts = own.host_starts;
-          query_starts = (queried own).1;
-          starts = own.starts;
-          session = h.begun.lines.headers 1 (omega arith);
-          transport = h.begun.lines.headers 2 (omega arith);
+          passes = sym uri_aimed ∙ d.passes;
+          thirteen = d.thirteen;
+          cseq = h.begun.cseq_is;
+          method = e;
+          stream = i.stream;
+          host = moved i.host;
+          query = moved (queried i).0;
+          codes = i.codes;
+          spans = i.spans;
+          host_starts = rw (uri_starts, i.host_starts);
+          query_starts = rw (uri_starts, (queried i).1);
+          starts = i.starts;
+          session = x ∙ seen_session (h.begun.lines.headers 1 (omega arith));
+          transport = y ∙ ap transport_of (seen_text (h.begun.lines.headers 2 (omega arith)));
         }
 
 -- FROM THE LINES ON
@@ -357,36 +338,25 @@ module _ (s : List ℕ) {l : Lines} {c : Span} (b : Begun s l c) where
 
         module _ (a : v ≡ true) where
           -- a Require header was sent
-          sent_is : ltb 0 (length (values_of 3 (header_lines s))) ≡ ltb 0 (times_of (get_or l.headers 3 unseen))
-          sent_is = sym (seen_sent (seen_of 3 (omega arith)))
+          module _ {x : Bool} (f : x ≡ is_some (first_seen (get_or l.headers 3 unseen))) where
+            sent_is : ltb 0 (length (values_of 3 (header_lines s))) ≡ x
+            sent_is = sym (f ∙ first_there (get_or l.headers 3 unseen) ∙ seen_sent (seen_of 3 (omega arith)))
 
-          required_is : ltb 0 (times_of (get_or l.headers 3 unseen)) ≡ true → head_refusal s ≡ Some Require
-          unfolding head_refusal
-          required_is y = rw (b.lines.whole, b.some, three_is, twice_is ∙ n, version_is ∙ a, sent_is ∙ y)
+            pub request_required : x ≡ true → head_refusal s ≡ Some Require
+            unfolding head_refusal
+            request_required y = rw (b.lines.whole, b.some, three_is, twice_is ∙ n, version_is ∙ a, sent_is ∙ y)
 
-          pub request_required : {frontends : ℕ} {r : Request} {place : Span} → first_seen (get_or l.headers 3 unseen) ≡ Some place → r ≡ refused_request Require c place → RequestIs frontends s r
-          unfolding request_refusal
-          request_required {place = place} h q =
-              let y : ltb 0 (times_of (get_or l.headers 3 unseen)) ≡ true = (first_there (get_or l.headers 3 unseen) h).0 in
-              let z : place_of (get_or l.headers 3 unseen) ≡ place = (first_there (get_or l.headers 3 unseen) h).1 in
-              request_refused
-              (λ _. (rw z at (seen_of 3 (omega arith)).value, rw z at (b.lines.starts 3 (omega arith))))
-              (λ n. absurd (n (required_is y)))
-              (rw (required_is y))
-              b.cseq_is
-              q
-
-          pub request_headed : first_seen (get_or l.headers 3 unseen) ≡ None → Headed s l c p
-          request_headed h =
-              let m = i.uri in
-              let k : length (part 0 l.line s) ≡ l.line - 0 = part_length 0 l.line s line_within in
-              record {
-                begun = b;
-                parts_are = i;
-                once = twice_is ∙ n;
-                version = version_is ∙ a;
-                free = sent_is ∙ first_none (get_or l.headers 3 unseen) h;
-                line_in = line_within;
-                first_in = omega (arith, m.order);
-                second_in = omega (arith, m.within);
-              }
+            pub request_headed : x ≡ false → Headed s l c p
+            request_headed y =
+                let m = i.uri in
+                let k : length (part 0 l.line s) ≡ l.line - 0 = part_length 0 l.line s line_within in
+                record {
+                  begun = b;
+                  parts_are = i;
+                  once = twice_is ∙ n;
+                  version = version_is ∙ a;
+                  free = sent_is ∙ y;
+                  line_in = line_within;
+                  first_in = omega (arith, m.order);
+                  second_in = omega (arith, m.within);
+                }

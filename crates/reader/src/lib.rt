@@ -5,52 +5,40 @@
 
 mod fields;
 
-ghost use Rattle.std.specs.Prelude.{◌≡◌, ltb};
-ghost use Rattle.lines.specs.Laid.{times_of};
+ghost use Rattle.std.specs.Prelude.{◌≡◌, true, ltb, Some, MatchOption, MatchResult};
+ghost use Rattle.lines.specs.Laid.{times_of, LinesAre};
 ghost use Rattle.reader.specs.Fields.{transport_of};
-ghost use Rattle.reader.specs.Heads.{CseqSeen, CseqIs, StandsIn, head_text, session_seen, are_twice, Begun, Headed, Passing, refused_request, RequestIs, is_other, method_in};
+ghost use Rattle.reader.specs.Request.{request_refusal};
+ghost use Rattle.reader.specs.Heads.{CseqSeen, CseqIs, StandsIn, head_text, session_seen, are_twice, RequireIs, IsMethod, AskedIs, RefusedIs, is_other, method_in};
 
-use aim::{Aim, Method};
+use aim::Method;
 pub use fields::Session;
 use lines::{Lines, Name, Seen};
 use refusals::Refusal;
 use scan::{Case, Span};
-use target::Parts;
 
-// A request, as it was read: why it is refused, if it is, and what it asks. `cseq` is where the digits of its CSeq stand, 0 to 0 where it has none. Spans of
-// attributes count from the start of the query's.
+// What a request asks that nothing refuses. `cseq` is where the digits of its CSeq stand; spans of attributes count from the start of the query's.
 #[derive(Clone, Copy)]
-pub struct Request {
+pub struct Asked {
     pub codes: [u32; 13],
     pub spans: [Span; 13],
-    pub refusal: Option<Refusal>,
     pub cseq: Span,
     pub method: Method,
     pub stream: u32,
     pub host: Span,
     pub query: Span,
-    pub require: Span,
     pub session: Session,
     // The first of the two ports of a Transport header, where it is of the one form allowed.
     pub transport: Option<u32>,
 }
 
-fn refuse(refusal: Refusal, cseq: Span, require: Span) -> Request
-    ensures { result ≡ refused_request refusal cseq require }
-{
-    Request {
-        codes: [0; 13],
-        spans: [Span { start: 0, end: 0 }; 13],
-        refusal: Some(refusal),
-        cseq,
-        method: Method::Other,
-        stream: 0,
-        host: Span { start: 0, end: 0 },
-        query: Span { start: 0, end: 0 },
-        require,
-        session: Session::Absent,
-        transport: None,
-    }
+// Why a request is refused, and what its answer repeats: where the digits of its CSeq stand, 0 to 0 where it has none, and the value of a Require header,
+// 0 to 0 unless that is what refuses the request.
+#[derive(Clone, Copy)]
+pub struct Refused {
+    pub refusal: Refusal,
+    pub cseq: Span,
+    pub require: Span,
 }
 
 // Where the digits of a CSeq header stand that was sent once.
@@ -102,63 +90,77 @@ fn are_twice(l: &Lines) -> bool
         | is_again(l.seen(Name::Accept))
 }
 
-// The method that a text is; its case counts.
-fn method_in(text: &[u8]) -> Method
-    ensures { result ≡ method_in text.now }
+// The method that a text is, if it is one; its case counts.
+fn method_in(text: &[u8]) -> Option<Method>
+    ensures { MatchOption result (is_other (method_in text.now) ≡ true) (IsMethod text.now) }
 {
     if scan::are_alike(b"OPTIONS", text, Case::Counts) {
-        return Method::Options;
+        return Some(Method::Options);
     }
     if scan::are_alike(b"SETUP", text, Case::Counts) {
-        return Method::Setup;
+        return Some(Method::Setup);
     }
     if scan::are_alike(b"PLAY", text, Case::Counts) {
-        return Method::Play;
+        return Some(Method::Play);
     }
     if scan::are_alike(b"TEARDOWN", text, Case::Counts) {
-        return Method::Teardown;
+        return Some(Method::Teardown);
     }
-    Method::Other
+    None
 }
 
-fn is_other(method: Method) -> bool
-    ensures { result ≡ is_other method }
+// Where the value of a Require header stands, if that is what refuses the request.
+fn required(s: &[u8], l: &Lines, refusal: Refusal) -> Span
+    requires { LinesAre s.now l.now }
+    ensures { RequireIs s.now refusal result }
 {
-    match method {
-        Method::Options => false,
-        Method::Setup => false,
-        Method::Play => false,
-        Method::Teardown => false,
-        Method::Other => true,
+    let nowhere = Span { start: 0, end: 0 };
+    match refusal {
+        Refusal::Require => l.seen(Name::Require).first().unwrap_or(nowhere),
+        _ => nowhere,
     }
 }
 
-// What a request asks that nothing refuses; its URI starts at `from`.
-fn passed(
-    s: &[u8],
-    l: &Lines,
-    cseq: Span,
-    method: Method,
-    from: usize,
-    a: Aim,
-    frontends: u8,
-) -> Request
-    requires { Passing frontends s.now l.now cseq method from a }
-    ensures { RequestIs frontends s.now result }
+// Steps 2 to 10 of a request whose layout is whole, and whose CSeq stands at `cseq`.
+#[inline(always)]
+fn read_laid_out(s: &[u8], l: &Lines, cseq: Span, frontends: u8) -> Result<Asked, Refusal>
+    requires lines { LinesAre s.now l.now }
+    requires cseq { CseqIs s.now cseq }
+    ensures { MatchResult result (AskedIs frontends s.now) (λ refusal. request_refusal frontends s.now ≡ Some refusal) }
 {
+    if cseq.end <= cseq.start {
+        return Err(Refusal::CSeq);
+    }
+    let end = l.line;
+    let line = &s[0..end];
+    let parts = target::request_line(line).ok_or(Refusal::RequestLine)?;
+    let space = parts.first;
+    let from = space + 1;
+    let to = parts.second;
+    let version = to + 1;
+    if are_twice(l) {
+        return Err(Refusal::HeaderTwice);
+    }
+    if !scan::are_alike(&line[version..], b"RTSP/1.0", Case::Counts) {
+        return Err(Refusal::Version);
+    }
+    if l.seen(Name::Require).first().is_some() {
+        return Err(Refusal::Require);
+    }
+    let method = method_in(&line[0..space]).ok_or(Refusal::Method)?;
+    let aim = aim::read_aim(method, &line[from..to], frontends)?;
     let session = session_at(s, l.seen(Name::Session));
     let transport = transport_at(s, l.seen(Name::Transport));
-    let codes = a.codes;
-    let spans = a.spans;
-    let host = a.host;
-    let query = a.query.unwrap_or(Span { start: 0, end: 0 });
-    Request {
+    let codes = aim.codes;
+    let spans = aim.spans;
+    let host = aim.host;
+    let query = aim.query.unwrap_or(Span { start: 0, end: 0 });
+    Ok(Asked {
         codes,
         spans,
-        refusal: None,
         cseq,
         method,
-        stream: a.stream,
+        stream: aim.stream,
         host: Span {
             start: from + host.start,
             end: from + host.end,
@@ -167,69 +169,25 @@ fn passed(
             start: from + query.start,
             end: from + query.end,
         },
-        require: Span { start: 0, end: 0 },
         session,
         transport,
-    }
+    })
 }
 
-// Steps 6 to 10.
-fn read_method(s: &[u8], l: &Lines, cseq: Span, parts: Parts, frontends: u8) -> Request
-    requires { Headed s.now l.now cseq parts }
-    ensures { RequestIs frontends s.now result }
+// Reads a request that was sent to a box with so many frontends: what it asks, or the first of steps 1 to 10 that refuses it.
+pub fn read(s: &[u8], frontends: u8) -> Result<Asked, Refused>
+    ensures { MatchResult result (AskedIs frontends s.now) (RefusedIs frontends s.now) }
 {
-    let end = l.line;
-    let line = &s[0..end];
-    let space = parts.first;
-    let method = method_in(&line[0..space]);
-    if is_other(method) {
-        return refuse(Refusal::Method, cseq, Span { start: 0, end: 0 });
-    }
-    let from = space + 1;
-    let to = parts.second;
-    match aim::read_aim(method, &line[from..to], frontends) {
-        Ok(a) => passed(s, l, cseq, method, from, a, frontends),
-        Err(refusal) => refuse(refusal, cseq, Span { start: 0, end: 0 }),
-    }
-}
-
-// Steps 3 to 10.
-fn read_line(s: &[u8], l: &Lines, cseq: Span, frontends: u8) -> Request
-    requires { Begun s.now l.now cseq }
-    ensures { RequestIs frontends s.now result }
-{
-    let end = l.line;
-    let line = &s[0..end];
-    let Some(parts) = target::request_line(line) else {
-        return refuse(Refusal::RequestLine, cseq, Span { start: 0, end: 0 });
-    };
-    if are_twice(l) {
-        return refuse(Refusal::HeaderTwice, cseq, Span { start: 0, end: 0 });
-    }
-    let version = parts.second + 1;
-    if !scan::are_alike(&line[version..], b"RTSP/1.0", Case::Counts) {
-        return refuse(Refusal::Version, cseq, Span { start: 0, end: 0 });
-    }
-    if let Some(value) = l.seen(Name::Require).first() {
-        return refuse(Refusal::Require, cseq, value);
-    }
-    read_method(s, l, cseq, parts, frontends)
-}
-
-// Reads a request that was sent to a box with so many frontends.
-pub fn read(s: &[u8], frontends: u8) -> Request
-    ensures { RequestIs frontends s.now result }
-{
-    let Some(l) = lines::read_lines(s) else {
-        return refuse(
-            Refusal::Layout,
-            Span { start: 0, end: 0 },
-            Span { start: 0, end: 0 },
-        );
-    };
-    let cseq = cseq_in(s, l.seen(Name::CSeq));
-    if cseq.end <= cseq.start {
-        return refuse(Refusal::CSeq, cseq, Span { start: 0, end: 0 });
-    }
-    read_line(s, &l, cseq, frontends)
+    let nowhere = Span { start: 0, end: 0 };
+    let lines = lines::read_lines(s).ok_or(Refused {
+        refusal: Refusal::Layout,
+        cseq: nowhere,
+        require: nowhere,
+    })?;
+    let cseq = cseq_in(s, lines.seen(Name::CSeq));
+    read_laid_out(s, &lines, cseq, frontends).map_err(|refusal| Refused {
+        refusal,
+        cseq,
+        require: required(s, &lines, refusal),
+    })
 }

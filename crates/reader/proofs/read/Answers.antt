@@ -1,11 +1,8 @@
-use native.Mathlib.Omega.{arith}
-use Rattle.reader.proofs.RequestLaws.{head_refused, request_broken, cseq_empty, request_uncounted}
+use Rattle.std.proofs.lemmas.Result.{err_from_is_err_and}
+use Rattle.reader.proofs.RequestLaws.{none_handed, request_unlaid}
 use Rattle.reader.proofs.read.Goals as goal
 
-pub returns-in_default : goal.returns-in_default
-returns-in_default c = let b = request_broken _ c.in_default.ensures in
-    head_refused b.0 (λ z. omega arith) b.1 c.refuse.ensures
-
-pub returns-then-cseq : goal.returns-then-cseq
-returns-then-cseq c = let e = c.cseq_in-cseq.ensures in
-    head_refused (request_uncounted _ c.in-Some.ensures (cseq_empty e c.if-cseq.true)) (λ z. omega arith) e c.refuse-then-cseq.ensures
+pub returns-in_err-lines : goal.returns-in_err-lines
+returns-in_err-lines c = let p = err_from_is_err_and c.from_residual.result c.from_residual.ensures.1 in
+    let n = none_handed _ _ c.read_lines.ensures c.in_err-lines.ensures.ok_part c.in_err-lines.ensures.value p.2 in
+    rw (p.1, n.1) (request_unlaid _ _ n.0)
