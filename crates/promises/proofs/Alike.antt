@@ -28,8 +28,8 @@ use Rattle.aim.specs.Found.{AimIs, Refuses}
 use Rattle.aim.specs.declared.Aim.{Aim}
 use Rattle.aim.specs.declared.Method.{Method as Methods}
 use Rattle.refusals.specs.declared.Refusal.{Refusal}
-use Rattle.refusals.specs.declared.Refusal.TheVariants.{Layout, CSeq, RequestLine, HeaderTwice, Version, Require, Method, UriLong, UriForm, QueryUntaken, QueryForm, PidsClash, PidsUnstreamed, Value, NoStream}
-use Rattle.reader.specs.Heads.{RequireIs, AskedIs, RefusedIs}
+use Rattle.refusals.specs.declared.Refusal.TheVariants.{Require}
+use Rattle.reader.specs.Heads.{CseqIs, RequireIs, AskedIs, RefusedIs}
 use Rattle.reader.specs.declared.Asked.{Asked}
 use Rattle.reader.specs.declared.Refused.{Refused}
 
@@ -120,30 +120,19 @@ module _ (frontends : ℕ) (m : Methods) (u : List ℕ) where
   aim_same (Err e) (Err f) p q = let z : Some e ≡ Some f = sym p ∙ q in cc
 
 -- A REQUEST
--- the place of a Require value, which step 5 alone hands out
-require_same : (s : List ℕ) (refusal : Refusal) {a b : Span} → RequireIs s refusal a → RequireIs s refusal b → a ≡ b
-require_same s Require p q = span_same (p.starts refl ∙ sym (q.starts refl)) (p.value refl) (q.value refl)
-require_same s Layout p q = p.none (λ e. cc) ∙ sym (q.none (λ e. cc))
-require_same s CSeq p q = p.none (λ e. cc) ∙ sym (q.none (λ e. cc))
-require_same s RequestLine p q = p.none (λ e. cc) ∙ sym (q.none (λ e. cc))
-require_same s HeaderTwice p q = p.none (λ e. cc) ∙ sym (q.none (λ e. cc))
-require_same s Version p q = p.none (λ e. cc) ∙ sym (q.none (λ e. cc))
-require_same s Method p q = p.none (λ e. cc) ∙ sym (q.none (λ e. cc))
-require_same s UriLong p q = p.none (λ e. cc) ∙ sym (q.none (λ e. cc))
-require_same s UriForm p q = p.none (λ e. cc) ∙ sym (q.none (λ e. cc))
-require_same s QueryUntaken p q = p.none (λ e. cc) ∙ sym (q.none (λ e. cc))
-require_same s QueryForm p q = p.none (λ e. cc) ∙ sym (q.none (λ e. cc))
-require_same s PidsClash p q = p.none (λ e. cc) ∙ sym (q.none (λ e. cc))
-require_same s PidsUnstreamed p q = p.none (λ e. cc) ∙ sym (q.none (λ e. cc))
-require_same s Value p q = p.none (λ e. cc) ∙ sym (q.none (λ e. cc))
-require_same s NoStream p q = p.none (λ e. cc) ∙ sym (q.none (λ e. cc))
+-- the place of the digits of CSeq, and of a Require value, which step 5 alone hands out
+cseq_same : (s : List ℕ) {a b : Span} → CseqIs s a → CseqIs s b → a ≡ b
+cseq_same s p q = span_same (p.starts ∙ sym q.starts) p.held q.held
+
+require_same : (s : List ℕ) (refusal : Refusal) (a b : Option Span) → MatchOption a (refusal ≡ Require → ⊥) (RequireIs s refusal) → MatchOption b (refusal ≡ Require → ⊥) (RequireIs s refusal) → a ≡ b
+require_same s refusal a b = option_same (RequireIs s refusal) a b (λ v p n. n p.is) (λ v w p q. span_same (p.starts ∙ sym q.starts) p.held q.held)
 
 module _ (frontends : ℕ) (s : List ℕ) where
   both_asked : (a b : Asked) → AskedIs frontends s a → AskedIs frontends s b → a ≡ b
   both_asked a b p q =
       let c : a.codes ≡ b.codes = ext_get_or 0 a.codes b.codes (p.thirteen.0 ∙ sym q.thirteen.0) (λ k _. p.codes k ∙ sym (q.codes k)) in
       let d : a.spans ≡ b.spans = ext_get_or nowhere a.spans b.spans (p.thirteen.1 ∙ sym q.thirteen.1) (λ k _. span_same (p.starts k ∙ sym (q.starts k)) (p.spans k) (q.spans k)) in
-      let e : a.cseq ≡ b.cseq = p.cseq.is ∙ sym q.cseq.is in
+      let e : a.cseq ≡ b.cseq = cseq_same s p.cseq q.cseq in
       let f : a.method ≡ b.method = p.method ∙ sym q.method in
       let g : a.stream ≡ b.stream = ap code_from (p.stream ∙ sym q.stream) in
       let h : a.host ≡ b.host = span_same (p.host_starts ∙ sym q.host_starts) p.host q.host in
@@ -166,8 +155,8 @@ module _ (frontends : ℕ) (s : List ℕ) where
   both_refused a b p q =
       let w : Some a.refusal ≡ Some b.refusal = sym p.refusal ∙ q.refusal in
       let c : a.refusal ≡ b.refusal = cc in
-      let d : a.cseq ≡ b.cseq = p.cseq.is ∙ sym q.cseq.is in
-      let e : a.require ≡ b.require = require_same s b.refusal (rw c at p.require) q.require in
+      let d : a.cseq ≡ b.cseq = option_same (CseqIs s) a.cseq b.cseq (λ v i n. never n i.some) (λ v w i j. cseq_same s i j) p.cseq q.cseq in
+      let e : a.require ≡ b.require = require_same s b.refusal a.require b.require (rw c at p.require) q.require in
       λ i. record { refusal = c i; cseq = d i; require = e i }
 
   asked_only : {a : Asked} {b : Refused} → AskedIs frontends s a → RefusedIs frontends s b → ⊥

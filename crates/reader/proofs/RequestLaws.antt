@@ -20,9 +20,10 @@ use Rattle.digits.specs.Standing.{Stands, digits_at}
 use Rattle.digits.proofs.Limits.{are_digits_law}
 use Rattle.lines.specs.Lines.{is_laid_out, request_line, header_lines}
 use Rattle.lines.specs.Headers.{values_of}
-use Rattle.lines.specs.Laid.{first_value, times_of, first_seen, unseen, SeenIs, LinesAre}
+use Rattle.lines.specs.Laid.{first_value, times_of, first_seen, place_of, unseen, SeenIs, LinesAre, value_start}
 use Rattle.std.specs.Prelude.{Some, None, Option, MatchOption, is_some, unwrap_or, Result, Err}
 use Rattle.std.specs.Option.{ok_or}
+use Rattle.std.specs.Bool.{then_some}
 use Rattle.lines.specs.declared.Seen.{Seen}
 use Rattle.lines.specs.declared.Seen.TheVariants.{Never, Once, Again}
 use Rattle.lines.specs.declared.Lines.{Lines}
@@ -30,15 +31,15 @@ use Rattle.target.specs.Line.{is_three, line_part}
 use Rattle.target.specs.Steps.{PartsAre}
 use Rattle.target.specs.declared.Parts.{Parts}
 use Rattle.reader.specs.Fields.{session_of, transport_of}
-use Rattle.reader.specs.Heads.{CseqSeen, cseq_place, CseqIs, StandsIn, session_in, head_text, session_seen, are_twice, uri_start, IsMethod, AskedIs, RefusedIs, is_other, method_in}
+use Rattle.reader.specs.Heads.{CseqSeen, CseqIs, StandsIn, session_in, head_text, session_seen, are_twice, uri_start, IsMethod, AskedIs, RefusedIs, RequireIs, refused_by, is_other, method_in}
 use Rattle.aim.specs.Aim.{uri_refusal}
 use Rattle.aim.specs.Found.{AimIs, Refuses}
 use Rattle.aim.proofs.AimLaws.{queried}
 use Rattle.refusals.specs.Refusals.{is_read}
 use Rattle.reader.specs.Request.{cseq_most, cseq_limit, cseq_of, is_twice, method_of, uri_of, head_refusal, request_refusal}
 use Rattle.refusals.specs.declared.Refusal.{Refusal}
-use Rattle.refusals.specs.declared.Refusal.TheVariants.{Layout, CSeq, RequestLine, HeaderTwice, Version, Require}
-use Rattle.refusals.specs.declared.Refusal.TheVariants.{Method as OtherMethod}
+use Rattle.refusals.specs.declared.Refusal.TheVariants.{Layout, CSeq, RequestLine, HeaderTwice, Version, Require, UriLong, UriForm, QueryUntaken, QueryForm, PidsClash, PidsUnstreamed, NoStream}
+use Rattle.refusals.specs.declared.Refusal.TheVariants.{Method as OtherMethod, Value as Outside}
 use Rattle.aim.specs.declared.Method.{Method}
 use Rattle.aim.specs.declared.Aim.{Aim}
 use Rattle.reader.specs.declared.fields.Session.{Session}
@@ -76,6 +77,13 @@ first_there Never = refl
 first_there (Once v) = refl
 first_there (Again v) = refl
 
+-- and its value stands there
+required_is : {s : List ℕ} (seen : Seen) → SeenIs s (values_of 3 (header_lines s)) seen → (place_of seen).start ≡ value_start 3 s → is_some (first_seen seen) ≡ true
+    → MatchOption (first_seen seen) (Require ≡ Require → ⊥) (RequireIs s Require)
+required_is Never i h y = never refl (sym y)
+required_is (Once v) i h y = record { is = refl; held = i.value; starts = h }
+required_is (Again v) i h y = record { is = refl; held = i.value; starts = h }
+
 pub first_session : (s : List ℕ) (seen : Seen) → first_seen seen ≡ None → Absent ≡ session_seen s seen
 first_session s Never e = refl
 first_session s (Once v) e = cc
@@ -88,28 +96,16 @@ first_transport s (Once v) e = cc
 first_transport s (Again v) e = cc
 
 -- CSEQ
--- where there is none
-cseq_none : (s : List ℕ) → cseq_of s ≡ [] → CseqIs s nowhere
-cseq_none s e = record { is = rw e; held = rw e (holds_nothing s) }
-
--- it is there exactly if its place has a byte
-module _ {s : List ℕ} {c : Span} (i : CseqIs s c) where
-  pub cseq_empty : c.end ≤ c.start → is_empty (cseq_of s) ≡ true
-  cseq_empty h = no_text (cseq_of s) (omega (arith, holds_length i.held))
-
-  pub cseq_some : c.start < c.end → is_empty (cseq_of s) ≡ false
-  cseq_some h = some_text (cseq_of s) (omega (arith, holds_length i.held))
-
 module _ {s : List ℕ} {seen : Seen} (q : CseqSeen s seen) where
   abbrev sent : List (List ℕ)
   sent = values_of 0 (header_lines s)
 
-  cseq_not_once : (times_of seen ≡ 1 → ⊥) → CseqIs s nowhere
+  cseq_not_once : (times_of seen ≡ 1 → ⊥) → is_empty (cseq_of s) ≡ true
   unfolding cseq_of
-  cseq_not_once n = cseq_none s (rw (q.whole, ne_eqb (length sent) 1 (λ e. n (q.values.times ∙ ap (λ k. min k 2) e))))
+  cseq_not_once n = rw (q.whole, ne_eqb (length sent) 1 (λ e. n (q.values.times ∙ ap (λ k. min k 2) e)))
 
 -- not sent once
-pub cseq_other : {s : List ℕ} (seen : Seen) → CseqSeen s seen → ((place : Span) → seen ≡ Once place → ⊥) → CseqIs s nowhere
+pub cseq_other : {s : List ℕ} (seen : Seen) → CseqSeen s seen → ((place : Span) → seen ≡ Once place → ⊥) → is_empty (cseq_of s) ≡ true
 cseq_other Never q n = cseq_not_once q (λ e. let z : ◌≡◌ {A = ℕ} 0 1 = e in omega arith)
 cseq_other (Once place) q n = absurd (n place refl)
 cseq_other (Again place) q n = cseq_not_once q (λ e. let z : ◌≡◌ {A = ℕ} 2 1 = e in omega arith)
@@ -131,20 +127,18 @@ module _ {s : List ℕ} {seen : Seen} {place : Span} (o : seen ≡ Once place) (
   value_is = text_held s value place q.values.value
 
   -- the digits stand where the value stands, if it is a number
-  here : Test (is_some (read_in 10 cseq_most cseq_limit value)) → digits_at 10 cseq_most cseq_limit s place ≡ cseq_place s
-  here (is y) =
-      let v = value in
-      let e : cseq_of s ≡ v = cseq_is ∙ rw y in
-      let n : is_empty v ≡ false = some_text v (are_digits_law 10 cseq_most cseq_limit v y).some in
-      rw (value_is, y, e, n, ← q.starts, ← holds_length q.values.value)
-  here (isnt n) = let e : cseq_of s ≡ [] = cseq_is ∙ rw n in rw (value_is, n, e)
+  here : (t : Bool) → is_some (read_in 10 cseq_most cseq_limit value) ≡ t → {r : Span} → r ≡ cond t place nowhere → Holds s (cond t value []) r.start r.end
+      → MatchOption (then_some (ltb r.start r.end) r) (is_empty (cseq_of s) ≡ true) (CseqIs s)
+  here true y {r} e h =
+      let n : is_empty value ≡ false = some_text value (are_digits_law 10 cseq_most cseq_limit value y).some in
+      let l : ltb r.start r.end ≡ true = lt-ltb r.start r.end (omega (arith, holds_length h, (are_digits_law 10 cseq_most cseq_limit value y).some)) in
+      rw l (record { some = rw (cseq_is, y) n; starts = rw e q.starts; held = rw (cseq_is, y) h })
+  here false n {r} e h = rw e (rw (cseq_is, n))
 
-  pub cseq_once : {r : Span} → Stands 10 cseq_most cseq_limit s place r → CseqIs s r
+  pub cseq_once : {r : Span} → Stands 10 cseq_most cseq_limit s place r → MatchOption (then_some (ltb r.start r.end) r) (is_empty (cseq_of s) ≡ true) (CseqIs s)
   cseq_once {r} w =
-      record {
-        is = w.is ∙ here (case (is_some (read_in 10 cseq_most cseq_limit value)));
-        held = rw (cseq_is, ← value_is) w.holds;
-      }
+      let t = is_some (read_in 10 cseq_most cseq_limit value) in
+      here t refl (w.is ∙ ap (λ v. cond (is_some (read_in 10 cseq_most cseq_limit v)) place nowhere) value_is) (rw value_is at w.holds)
 
 -- HOW FAR IT HAS COME
 abbrev pub is_version : List ℕ → Bool
@@ -157,7 +151,6 @@ are_repeated s = is_twice 1 s || is_twice 2 s || is_twice 3 s || is_twice 4 s
 pub record Begun (s : List ℕ) (l : Lines) (cseq : Span) : Type 0 where
   pub lines : LinesAre s l
   pub cseq_is : CseqIs s cseq
-  pub some : is_empty (cseq_of s) ≡ false
 
 -- and whose request line has three parts and the right version, with no header twice and none required: past steps 3 to 5
 pub record Headed (s : List ℕ) (l : Lines) (cseq : Span) (parts : Parts) : Type 0 where
@@ -170,14 +163,14 @@ pub record Headed (s : List ℕ) (l : Lines) (cseq : Span) (parts : Parts) : Typ
   pub first_in : parts.first < parts.second
   pub second_in : parts.second ≤ l.line
 
-pub begun : {s : List ℕ} {l : Lines} {c : Span} → LinesAre s l → CseqIs s c → c.start < c.end → Begun s l c
-begun l i h = record { lines = l; cseq_is = i; some = cseq_some i h }
-
 -- what is missing is refused as the caller says
 pub none_handed : {A E : Type 0} (P : Type 0) (Q : A → Type 0) {o : Option A} {x e y : E} → MatchOption o P Q → o ≡ None → Err e ≡ ok_or o x → y ≡ e → P × (y ≡ x)
 none_handed {A} {E} P Q {x = x} {e} h z v u =
     let w : ◌≡◌ {A = Result A E} (Err e) (Err x) = v ∙ ap (λ p. ok_or p x) z in
     (rw z at h, cc)
+
+pub begun : {s : List ℕ} {l : Lines} {c : Span} → LinesAre s l → CseqIs s c → Begun s l c
+begun l i = record { lines = l; cseq_is = i }
 
 -- REFUSED REQUESTS
 -- by one of steps 1 to 6
@@ -185,27 +178,46 @@ pub head_refused : (frontends : ℕ) (s : List ℕ) {x : Refusal} → head_refus
 unfolding request_refusal
 head_refused frontends s h = rw h
 
-request_broken : (s : List ℕ) → is_laid_out s ≡ false → (head_refusal s ≡ Some Layout) × CseqIs s nowhere
-unfolding head_refusal cseq_of
-request_broken s b = (rw b, cseq_none s (rw b))
+-- what holds of two holds of the first that applies
+pub gives_keeps : {A : Type 0} (P : A → Type 0) (b : Bool) (x y : A) → P x → P y → P (b gives x or y)
+gives_keeps P true x y p q = p
+gives_keeps P false x y p q = q
 
-pub request_unlaid : (frontends : ℕ) (s : List ℕ) → is_laid_out s ≡ false → RefusedIs frontends s (record { refusal = Layout; cseq = nowhere; require = nowhere })
-request_unlaid frontends s b =
-    let r = request_broken s b in
-    let other : Layout ≡ Require → ⊥ = λ e. cc in
-    record {
-      refusal = head_refused frontends s r.0;
-      cseq = r.1;
-      require = record { value = λ e. absurd (other e); starts = λ e. absurd (other e); none = λ _. refl };
-    }
+-- a URI is not refused for a Require header
+abbrev IsOther : Option Refusal → Type 0
+IsOther o = o ≡ Some Require → ⊥
+
+uri_unrequired : (frontends : ℕ) (method : Method) (u : List ℕ) → IsOther (uri_refusal frontends method u)
+unfolding uri_refusal
+uri_unrequired frontends method u =
+    gives_keeps IsOther _ (Some UriLong) _ (λ e. cc)
+    (gives_keeps IsOther _ (Some UriForm) _ (λ e. cc)
+    (gives_keeps IsOther _ (Some QueryUntaken) _ (λ e. cc)
+    (gives_keeps IsOther _ (Some QueryForm) _ (λ e. cc)
+    (gives_keeps IsOther _ (Some PidsClash) _ (λ e. cc)
+    (gives_keeps IsOther _ (Some PidsUnstreamed) _ (λ e. cc)
+    (gives_keeps IsOther _ (Some Outside) _ (λ e. cc)
+    (gives_keeps IsOther _ (Some NoStream) None (λ e. cc) (λ e. cc))))))))
+
+-- by a step that repeats no Require value
+plainly : {frontends : ℕ} {s : List ℕ} {x : Refusal} {c : Option Span} → request_refusal frontends s ≡ Some x → (x ≡ Require → ⊥) → MatchOption c (is_empty (cseq_of s) ≡ true) (CseqIs s)
+    → RefusedIs frontends s (refused_by x c)
+plainly r n i = record { refusal = r; cseq = i; require = n }
+
+pub head_plainly : (frontends : ℕ) {s : List ℕ} {x : Refusal} {c : Span} → CseqIs s c → head_refusal s ≡ Some x → (x ≡ Require → ⊥) → RefusedIs frontends s (refused_by x (Some c))
+head_plainly frontends i h n = plainly (head_refused frontends _ h) n i
+
+pub request_unlaid : (frontends : ℕ) (s : List ℕ) → is_laid_out s ≡ false → RefusedIs frontends s (refused_by Layout None)
+unfolding head_refusal cseq_of
+request_unlaid frontends s b = plainly (head_refused frontends s (rw b)) (λ e. cc) (rw b)
 
 module _ (s : List ℕ) {l : Lines} (i : LinesAre s l) where
   pub cseq_seen : CseqSeen s (get_or l.headers 0 unseen)
   cseq_seen = record { whole = i.whole; values = i.headers 0 (omega arith); starts = i.starts 0 (omega arith) }
 
-  pub request_uncounted : is_empty (cseq_of s) ≡ true → head_refusal s ≡ Some CSeq
+  pub request_uncounted : (frontends : ℕ) → is_empty (cseq_of s) ≡ true → RefusedIs frontends s (refused_by CSeq None)
   unfolding head_refusal
-  request_uncounted n = rw (i.whole, n)
+  request_uncounted frontends n = plainly (head_refused frontends s (rw (i.whole, n))) (λ e. cc) n
 
 -- what was read is not refused
 pub passed_is : (x : Option Refusal) → is_read x ≡ true → x ≡ None
@@ -236,7 +248,7 @@ module _ (frontends : ℕ) (s : List ℕ) {l : Lines} {c : Span} {p : Parts} (h 
   head_is =
       rw (
         h.begun.lines.whole,
-        h.begun.some,
+        h.begun.cseq_is.some,
         ap is_three line_is ∙ h.parts_are.three,
         h.once,
         h.version,
@@ -258,8 +270,8 @@ module _ (frontends : ℕ) (s : List ℕ) {l : Lines} {c : Span} {p : Parts} (h 
     uri_aimed = rw (passes, e, uri_held)
 
     -- refused by one of steps 7 to 10
-    pub request_unaimed : {x : Refusal} → Refuses frontends m (part (p.first + 1) p.second (part 0 l.line s)) x → request_refusal frontends s ≡ Some x
-    request_unaimed f = sym uri_aimed ∙ f
+    pub request_unaimed : {x : Refusal} → Refuses frontends m (part (p.first + 1) p.second (part 0 l.line s)) x → RefusedIs frontends s (refused_by x (Some c))
+    request_unaimed f = plainly (sym uri_aimed ∙ f) (λ e. uri_unrequired frontends m (part (p.first + 1) p.second (part 0 l.line s)) (f ∙ ap Some e)) h.begun.cseq_is
 
     moved : {ys : List ℕ} {j k : ℕ} → Holds (uri_of s) ys j k → Holds s ys (p.first + 1 + j) (p.first + 1 + k)
     moved {ys} {j} {k} x =
@@ -314,7 +326,7 @@ module _ (s : List ℕ) {l : Lines} {c : Span} (b : Begun s l c) where
 
   pub request_unparted : is_three (part 0 l.line s) ≡ false → head_refusal s ≡ Some RequestLine
   unfolding head_refusal
-  request_unparted n = rw (b.lines.whole, b.some, ap is_three own_line ∙ n)
+  request_unparted n = rw (b.lines.whole, b.cseq_is.some, ap is_three own_line ∙ n)
 
   module _ {p : Parts} (i : PartsAre (part 0 l.line s) p) where
     three_is : is_three (request_line s) ≡ true
@@ -326,7 +338,7 @@ module _ (s : List ℕ) {l : Lines} {c : Span} (b : Begun s l c) where
 
       pub request_twice : t ≡ true → head_refusal s ≡ Some HeaderTwice
       unfolding head_refusal
-      request_twice z = rw (b.lines.whole, b.some, three_is, twice_is ∙ z)
+      request_twice z = rw (b.lines.whole, b.cseq_is.some, three_is, twice_is ∙ z)
 
       module _ (n : t ≡ false) {v : Bool} (u : v ≡ are_alike Counts (part (p.second + 1) (length (part 0 l.line s)) (part 0 l.line s)) (text "RTSP/1.0")) where
         version_is : is_version s ≡ v
@@ -334,7 +346,7 @@ module _ (s : List ℕ) {l : Lines} {c : Span} (b : Begun s l c) where
 
         pub request_unversioned : v ≡ false → head_refusal s ≡ Some Version
         unfolding head_refusal
-        request_unversioned z = rw (b.lines.whole, b.some, three_is, twice_is ∙ n, version_is ∙ z)
+        request_unversioned z = rw (b.lines.whole, b.cseq_is.some, three_is, twice_is ∙ n, version_is ∙ z)
 
         module _ (a : v ≡ true) where
           -- a Require header was sent
@@ -342,9 +354,17 @@ module _ (s : List ℕ) {l : Lines} {c : Span} (b : Begun s l c) where
             sent_is : ltb 0 (length (values_of 3 (header_lines s))) ≡ x
             sent_is = sym (f ∙ first_there (get_or l.headers 3 unseen) ∙ seen_sent (seen_of 3 (omega arith)))
 
-            pub request_required : x ≡ true → head_refusal s ≡ Some Require
+            required_first : x ≡ true → head_refusal s ≡ Some Require
             unfolding head_refusal
-            request_required y = rw (b.lines.whole, b.some, three_is, twice_is ∙ n, version_is ∙ a, sent_is ∙ y)
+            required_first y = rw (b.lines.whole, b.cseq_is.some, three_is, twice_is ∙ n, version_is ∙ a, sent_is ∙ y)
+
+            pub request_required : (frontends : ℕ) → x ≡ true → RefusedIs frontends s (record { refusal = Require; cseq = Some c; require = first_seen (get_or l.headers 3 unseen) })
+            request_required frontends y =
+                record {
+                  refusal = head_refused frontends s (required_first y);
+                  cseq = b.cseq_is;
+                  require = required_is (get_or l.headers 3 unseen) (seen_of 3 (omega arith)) (b.lines.starts 3 (omega arith)) (sym f ∙ y);
+                }
 
             pub request_headed : x ≡ false → Headed s l c p
             request_headed y =

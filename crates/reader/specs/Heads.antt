@@ -1,6 +1,6 @@
 -- What the functions of this crate promise each other and the crates above: what a header's place holds, how far a request has come between
 -- them, and where in it stands what it asks. No call of the box reaches it. Assumes nothing.
-use Rattle.std.specs.Prelude.{ℕ, ◌+◌, ◌≤◌, ◌%◌, ◌≡◌, Bool, true, false, cond, ◌||◌, ◌&&◌, List, [], ◌∷◌, ltb, eqb, length, get_or, Some, None}
+use Rattle.std.specs.Prelude.{ℕ, ◌+◌, ◌≤◌, ◌%◌, ◌≡◌, Bool, true, false, cond, ◌||◌, ◌&&◌, List, [], ◌∷◌, ltb, eqb, length, get_or, Option, Some, None, MatchOption}
 use Rattle.scan.specs.Lists.{part, first}
 use Rattle.scan.specs.Found.{Holds, nowhere}
 use Rattle.digits.specs.Reading.{read_hex8}
@@ -63,12 +63,10 @@ pub record CseqSeen (s : List ℕ) (seen : Seen) : Type 0 where
   pub values : SeenIs s (values_of 0 (header_lines s)) seen
   pub starts : (place_of seen).start ≡ value_start 0 s
 
--- order 2: where the digits of its CSeq stand in the request's bytes; nowhere, if it has none
-abbrev pub cseq_place : List ℕ → Span
-cseq_place s = cond (is_empty (cseq_of s)) nowhere (record { start = value_start 0 s; end = value_start 0 s + length (cseq_of s) })
-
+-- order 2: where the digits of its CSeq stand in the request's bytes, where it has one
 pub record CseqIs (s : List ℕ) (r : Span) : Type 0 where
-  pub is : r ≡ cseq_place s
+  pub some : is_empty (cseq_of s) ≡ false
+  pub starts : r.start ≡ value_start 0 s
   pub held : Holds s (cseq_of s) r.start r.end
 
 abbrev pub session_seen : List ℕ → Seen → Session
@@ -85,11 +83,19 @@ pub record IsMethod (word : List ℕ) (m : Method) : Type 0 where
   pub is : m ≡ method_in word
   pub named : is_other m ≡ false
 
+-- where a span of the URI stands in a request in which the URI starts so far from the front
+abbrev pub behind : ℕ → Span → Span
+behind from r = record { start = from + r.start; end = from + r.end }
+
+-- refused by a step that repeats no Require value
+abbrev pub refused_by : Refusal → Option Span → Refused
+refused_by refusal cseq = record { refusal = refusal; cseq = cseq; require = None }
+
 -- where the value of a Require header stands, which step 5 alone hands out
 pub record RequireIs (s : List ℕ) (refusal : Refusal) (r : Span) : Type 0 where
-  pub value : refusal ≡ Require → Holds s (first_value (values_of 3 (header_lines s))) r.start r.end
-  pub starts : refusal ≡ Require → r.start ≡ value_start 3 s
-  pub none : (refusal ≡ Require → ⊥) → r ≡ nowhere
+  pub is : refusal ≡ Require
+  pub held : Holds s (first_value (values_of 3 (header_lines s))) r.start r.end
+  pub starts : r.start ≡ value_start 3 s
 
 -- nothing refuses the request: what it asks and where that stands
 pub record AskedIs (frontends : ℕ) (s : List ℕ) (r : Asked) : Type 0 where
@@ -111,5 +117,5 @@ pub record AskedIs (frontends : ℕ) (s : List ℕ) (r : Asked) : Type 0 where
 -- the first of steps 1 to 10 that refuses, and where that stands which its answer repeats
 pub record RefusedIs (frontends : ℕ) (s : List ℕ) (r : Refused) : Type 0 where
   pub refusal : request_refusal frontends s ≡ Some r.refusal
-  pub cseq : CseqIs s r.cseq
-  pub require : RequireIs s r.refusal r.require
+  pub cseq : MatchOption r.cseq (is_empty (cseq_of s) ≡ true) (CseqIs s)
+  pub require : MatchOption r.require (r.refusal ≡ Require → ⊥) (RequireIs s r.refusal)

@@ -5,11 +5,12 @@
 
 mod fields;
 
-ghost use Rattle.std.specs.Prelude.{◌≡◌, true, ltb, Some, MatchOption, MatchResult};
+ghost use Rattle.std.specs.Prelude.{◌≡◌, ◌+◌, ◌<◌, ◌^◌, true, ltb, MatchOption, MatchResult};
+ghost use Rattle.scan.specs.Text.{is_empty};
 ghost use Rattle.lines.specs.Laid.{times_of, LinesAre};
 ghost use Rattle.reader.specs.Fields.{transport_of};
-ghost use Rattle.reader.specs.Request.{request_refusal};
-ghost use Rattle.reader.specs.Heads.{CseqSeen, CseqIs, StandsIn, head_text, session_seen, are_twice, RequireIs, IsMethod, AskedIs, RefusedIs, is_other, method_in};
+ghost use Rattle.reader.specs.Request.{cseq_of};
+ghost use Rattle.reader.specs.Heads.{CseqSeen, CseqIs, StandsIn, head_text, session_seen, are_twice, behind, refused_by, IsMethod, AskedIs, RefusedIs, is_other, method_in};
 
 use aim::Method;
 pub use fields::Session;
@@ -32,24 +33,36 @@ pub struct Asked {
     pub transport: Option<u32>,
 }
 
-// Why a request is refused, and what its answer repeats: where the digits of its CSeq stand, 0 to 0 where it has none, and the value of a Require header,
-// 0 to 0 unless that is what refuses the request.
+// Why a request is refused, and what its answer repeats: where the digits of its CSeq stand, if it has one, and the value of a Require header, where that is
+// what refuses it.
 #[derive(Clone, Copy)]
 pub struct Refused {
     pub refusal: Refusal,
-    pub cseq: Span,
-    pub require: Span,
+    pub cseq: Option<Span>,
+    pub require: Option<Span>,
 }
 
-// Where the digits of a CSeq header stand that was sent once.
-fn cseq_in(s: &[u8], seen: Seen) -> Span
+// By a step that repeats no Require value.
+fn refuse(refusal: Refusal, cseq: Option<Span>) -> Refused
+    ensures { result ≡ refused_by refusal cseq }
+{
+    Refused {
+        refusal,
+        cseq,
+        require: None,
+    }
+}
+
+// Where the digits of a CSeq header stand that was sent once, and is a number.
+fn cseq_in(s: &[u8], seen: Seen) -> Option<Span>
     requires { CseqSeen s.now seen }
-    ensures { CseqIs s.now result }
+    ensures { MatchOption result (is_empty (cseq_of s.now) ≡ true) (CseqIs s.now) }
 {
     let Seen::Once(value) = seen else {
-        return Span { start: 0, end: 0 };
+        return None;
     };
-    digits::digits_at(10, s, value, 10, 4294967295)
+    let digits = digits::digits_at(10, s, value, 10, 4294967295);
+    (digits.start < digits.end).then_some(digits)
 }
 
 fn session_at(s: &[u8], seen: Seen) -> Session
@@ -109,85 +122,73 @@ fn method_in(text: &[u8]) -> Option<Method>
     None
 }
 
-// Where the value of a Require header stands, if that is what refuses the request.
-fn required(s: &[u8], l: &Lines, refusal: Refusal) -> Span
-    requires { LinesAre s.now l.now }
-    ensures { RequireIs s.now refusal result }
+// Where a span of the URI stands in the request, in which the URI starts at `from`.
+fn behind(from: usize, span: Span) -> Span
+    requires start { from + span.start < 2 ^ 64 }
+    requires end { from + span.end < 2 ^ 64 }
+    ensures { result ≡ behind from span }
 {
-    let nowhere = Span { start: 0, end: 0 };
-    match refusal {
-        Refusal::Require => l.seen(Name::Require).first().unwrap_or(nowhere),
-        _ => nowhere,
+    Span {
+        start: from + span.start,
+        end: from + span.end,
     }
 }
 
-// Steps 2 to 10 of a request whose layout is whole, and whose CSeq stands at `cseq`.
+// Steps 3 to 10 of a request whose layout is whole, and whose CSeq stands at `cseq`.
 #[inline(always)]
-fn read_laid_out(s: &[u8], l: &Lines, cseq: Span, frontends: u8) -> Result<Asked, Refusal>
+fn read_laid_out(s: &[u8], l: &Lines, cseq: Span, frontends: u8) -> Result<Asked, Refused>
     requires lines { LinesAre s.now l.now }
     requires cseq { CseqIs s.now cseq }
-    ensures { MatchResult result (AskedIs frontends s.now) (λ refusal. request_refusal frontends s.now ≡ Some refusal) }
+    ensures { MatchResult result (AskedIs frontends s.now) (RefusedIs frontends s.now) }
 {
-    if cseq.end <= cseq.start {
-        return Err(Refusal::CSeq);
-    }
     let end = l.line;
     let line = &s[0..end];
-    let parts = target::request_line(line).ok_or(Refusal::RequestLine)?;
+    let parts = target::request_line(line).ok_or(refuse(Refusal::RequestLine, Some(cseq)))?;
     let space = parts.first;
     let from = space + 1;
     let to = parts.second;
     let version = to + 1;
     if are_twice(l) {
-        return Err(Refusal::HeaderTwice);
+        return Err(refuse(Refusal::HeaderTwice, Some(cseq)));
     }
     if !scan::are_alike(&line[version..], b"RTSP/1.0", Case::Counts) {
-        return Err(Refusal::Version);
+        return Err(refuse(Refusal::Version, Some(cseq)));
     }
-    if l.seen(Name::Require).first().is_some() {
-        return Err(Refusal::Require);
+    let require = l.seen(Name::Require).first();
+    if require.is_some() {
+        return Err(Refused {
+            require,
+            ..refuse(Refusal::Require, Some(cseq))
+        });
     }
-    let method = method_in(&line[0..space]).ok_or(Refusal::Method)?;
-    let aim = aim::read_aim(method, &line[from..to], frontends)?;
-    let session = session_at(s, l.seen(Name::Session));
-    let transport = transport_at(s, l.seen(Name::Transport));
-    let codes = aim.codes;
-    let spans = aim.spans;
-    let host = aim.host;
-    let query = aim.query.unwrap_or(Span { start: 0, end: 0 });
-    Ok(Asked {
-        codes,
-        spans,
-        cseq,
-        method,
-        stream: aim.stream,
-        host: Span {
-            start: from + host.start,
-            end: from + host.end,
-        },
-        query: Span {
-            start: from + query.start,
-            end: from + query.end,
-        },
-        session,
-        transport,
-    })
+    let method = method_in(&line[0..space]).ok_or(refuse(Refusal::Method, Some(cseq)))?;
+    match aim::read_aim(method, &line[from..to], frontends) {
+        Err(refusal) => Err(refuse(refusal, Some(cseq))),
+        Ok(aim) => {
+            let codes = aim.codes;
+            let spans = aim.spans;
+            Ok(Asked {
+                codes,
+                spans,
+                cseq,
+                method,
+                stream: aim.stream,
+                host: behind(from, aim.host),
+                query: behind(from, aim.query.unwrap_or(Span { start: 0, end: 0 })),
+                session: session_at(s, l.seen(Name::Session)),
+                transport: transport_at(s, l.seen(Name::Transport)),
+            })
+        }
+    }
 }
 
 // Reads a request that was sent to a box with so many frontends: what it asks, or the first of steps 1 to 10 that refuses it.
 pub fn read(s: &[u8], frontends: u8) -> Result<Asked, Refused>
     ensures { MatchResult result (AskedIs frontends s.now) (RefusedIs frontends s.now) }
 {
-    let nowhere = Span { start: 0, end: 0 };
-    let lines = lines::read_lines(s).ok_or(Refused {
-        refusal: Refusal::Layout,
-        cseq: nowhere,
-        require: nowhere,
-    })?;
-    let cseq = cseq_in(s, lines.seen(Name::CSeq));
-    read_laid_out(s, &lines, cseq, frontends).map_err(|refusal| Refused {
-        refusal,
-        cseq,
-        require: required(s, &lines, refusal),
-    })
+    let Some(lines) = lines::read_lines(s) else {
+        return Err(refuse(Refusal::Layout, None));
+    };
+    let cseq = cseq_in(s, lines.seen(Name::CSeq)).ok_or(refuse(Refusal::CSeq, None))?;
+    read_laid_out(s, &lines, cseq, frontends)
 }

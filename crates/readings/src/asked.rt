@@ -2,7 +2,6 @@
 use crate::out;
 use aim::Method;
 use reader::{Asked, Refused, Session};
-use refusals::Refusal;
 use std::io;
 
 fn method(m: Method) -> &'static str {
@@ -46,7 +45,7 @@ fn attributes(rt: &impl Print, query: &[u8], asked: &Asked) -> io::Result<()> {
 
 fn passed(rt: &impl Print, s: &[u8], asked: &Asked) -> io::Result<()> {
     print!(rt; " step 0 status 200 cseq ")?;
-    out::digits(rt, s, asked.cseq)?;
+    out::digits(rt, s, Some(asked.cseq))?;
     print!(rt; " method {} stream {} host ", method(asked.method), asked.stream)?;
     out::part(rt, s, asked.host)?;
     session(rt, asked.session)?;
@@ -62,9 +61,9 @@ fn refused(rt: &impl Print, s: &[u8], refused: &Refused) -> io::Result<()> {
     let status = refusals::status(refused.refusal);
     print!(rt; " step {step} status {status} cseq ")?;
     out::digits(rt, s, refused.cseq)?;
-    if let Refusal::Require = refused.refusal {
+    if let Some(require) = refused.require {
         print!(rt; " require ")?;
-        out::part(rt, s, refused.require)?;
+        out::part(rt, s, require)?;
     }
     Ok(())
 }

@@ -9,6 +9,7 @@ use lib.ListN.{length}
 use borrow.Author.Tests.{eqb-true, eqb-false}
 use Rattle.std.specs.Prelude.{is_some}
 use Rattle.scan.specs.Lists.{all, ◌gives◌or◌}
+use Rattle.scan.specs.Text.{is_empty}
 use Rattle.scan.specs.Found.{text_at, nowhere}
 use Rattle.scan.specs.declared.Span.{Span}
 use Rattle.scan.proofs.Bools.{never, by_test, cond_keeps}
@@ -27,7 +28,8 @@ use Rattle.aim.specs.declared.Method.{Method}
 use Rattle.aim.specs.declared.Method.TheVariants.{Options, Setup, Play, Teardown, Other}
 use Rattle.refusals.specs.declared.Refusal.{Refusal}
 use Rattle.refusals.specs.declared.Refusal.TheVariants as refusal
-use Rattle.reader.specs.Heads.{CseqIs, AskedIs, RefusedIs}
+use Rattle.reader.specs.Heads.{CseqIs, RequireIs, AskedIs, RefusedIs}
+use Rattle.reader.proofs.RequestLaws.{gives_keeps}
 use Rattle.reader.specs.Request.{method_of, uri_of, cseq_most, cseq_limit, cseq_of, head_refusal, request_refusal}
 use Rattle.reader.specs.declared.Asked.{Asked as Read}
 use Rattle.reader.specs.declared.Refused.{Refused}
@@ -38,7 +40,7 @@ use Rattle.answer.specs.declared.Answer.{Answer}
 use Rattle.answer.specs.declared.Kind.TheVariants as kind
 use Rattle.answer.proofs.Fits.{answer_fits}
 use Rattle.steps.proofs.Telling.{asked_short, request_short}
-use Rattle.std.specs.Prelude.{Option, Some, None}
+use Rattle.std.specs.Prelude.{Option, Some, None, MatchOption, unwrap_or}
 use Rattle.steps.specs.Steps.{rule_of, status_of, read_case, is_passed, table_case}
 use Rattle.steps.specs.Tests.{lacks_session, names_dead, is_out_of_state, is_anothers, lacks_port}
 use Rattle.steps.specs.Replies.{granted_lines, reply_lines, reply_text}
@@ -61,14 +63,9 @@ pub read_passes : (x : Option Refusal) → is_passed (read_case x) ≡ reading.i
 read_passes None = refl
 read_passes (Some x) = refl
 
--- what holds of two refusals holds of the first that applies
-refuses_keeps : {A : Type 0} (P : A → Type 0) (b : Bool) (x y : A) → P x → P y → P (b gives x or y)
-refuses_keeps P true x y p q = p
-refuses_keeps P false x y p q = q
-
 -- steps 11 to 15 are none of the reading's
 pub unread_chain : (b : Bool) (c d : Option Case) → IsUnread c → IsUnread d → IsUnread (b gives c or d)
-unread_chain = refuses_keeps IsUnread
+unread_chain = gives_keeps IsUnread
 
 pub table_unread : (v : Sight) → IsUnread (table_case v)
 unfolding table_case
@@ -132,6 +129,21 @@ refused_told step word value a h = by (eqb step 5) (eqb step 6) (eqb step 10) h
 cseq_told : {s : List ℕ} {place : Span} → CseqIs s place → text_at s place ≡ cseq_of s
 cseq_told {s} {place} i = text_held s (cseq_of s) place i.held
 
+-- none, where there is no such CSeq
+cseq_given : (s : List ℕ) (c : Option Span) → MatchOption c (is_empty (cseq_of s) ≡ true) (CseqIs s) → text_at s (unwrap_or c nowhere) ≡ cseq_of s
+cseq_given s (Some place) i = cseq_told i
+cseq_given s None n = text_nowhere s ∙ sym (none_there (cseq_of s) n)
+  where
+    none_there : (xs : List ℕ) → is_empty xs ≡ true → xs ≡ []
+    none_there [] e = refl
+    none_there (x ∷ xs) e = never (sym e) refl
+
+-- the value of a Require header, where step 5 refuses
+require_given : (s : List ℕ) (x : Refusal) (r : Option Span) → MatchOption r (x ≡ refusal.Require → ⊥) (RequireIs s x) → x ≡ refusal.Require
+    → text_at s (unwrap_or r nowhere) ≡ first_value (values_of 3 (header_lines s))
+require_given s x (Some place) i e = text_held s (first_value (values_of 3 (header_lines s))) place i.held
+require_given s x None n e = absurd (n e)
+
 -- THE ANSWER IS WHAT THE REQUEST'S BYTES SAY: of one that steps 1 to 10 let through
 module _ (frontends : ℕ) (s : List ℕ) (r : Read) (i : AskedIs frontends s r) where
   abbrev word_at : Option Case → Span
@@ -159,25 +171,31 @@ module _ (frontends : ℕ) (s : List ℕ) (r : Read) (i : AskedIs frontends s r)
 
 -- and of one that they refuse
 module _ (frontends : ℕ) (s : List ℕ) (x : Refused) (j : RefusedIs frontends s x) where
+  abbrev value_at : Span
+  value_at = unwrap_or x.require nowhere
+
   is_fifth : eqb (reading_rule x.refusal).0 5 ≡ true → x.refusal ≡ refusal.Require
   is_fifth y = let e : Reading x.refusal ≡ Reading refusal.Require = fifth (Reading x.refusal) (eqb-true (reading_rule x.refusal).0 5 y) in cc
 
-  refusal_lines : (session : Session) → lines_by (refused_kind (Reading x.refusal)) (text_at s x.require) (refused_reply x) ≡ reply_lines (Some (Reading x.refusal)) s session
+  refusal_lines : (session : Session) → lines_by (refused_kind (Reading x.refusal)) (text_at s value_at) (refused_reply x) ≡ reply_lines (Some (Reading x.refusal)) s session
   refusal_lines session =
-      let value = first_value (values_of 3 (header_lines s)) in
-      refused_told (reading_rule x.refusal).0 (text_at s x.require) value (refused_reply x) (λ y. text_held s value x.require (j.require.value (is_fifth y)))
+      refused_told (reading_rule x.refusal).0 (text_at s value_at) (first_value (values_of 3 (header_lines s))) (refused_reply x)
+      (λ y. require_given s x.refusal x.require j.require (is_fifth y))
 
   pub refusal_told : (session : Session) → answer_text s (refused_reply x) ≡ reply_text (Some (Reading x.refusal)) s session
   unfolding refused_reply reply_text
   refusal_told session =
-      ap (answer_lines (reading_rule x.refusal).1 (text_at s x.cseq)) (refusal_lines session)
-      ∙ ap (λ digits. answer_lines (reading_rule x.refusal).1 digits (reply_lines (Some (Reading x.refusal)) s session)) (cseq_told j.cseq)
+      ap (answer_lines (reading_rule x.refusal).1 (text_at s (unwrap_or x.cseq nowhere))) (refusal_lines session)
+      ∙ ap (λ digits. answer_lines (reading_rule x.refusal).1 digits (reply_lines (Some (Reading x.refusal)) s session)) (cseq_given s x.cseq j.cseq)
 
-  required_short : length (text_at s x.require) ≤ 2048
-  required_short =
-      by_test (λ _. length (text_at s x.require) ≤ 2048) (eqb (reading_rule x.refusal).0 5)
-      (λ y. omega (arith, text_within s x.require, request_short frontends s (λ z. let k : Some x.refusal ≡ Some refusal.Layout = sym j.refusal ∙ z in let e = is_fifth y in cc)))
-      (λ z. rw (j.require.none (λ k. eqb-false (reading_rule x.refusal).0 5 z (ap (λ q. (reading_rule q).0) k)), text_nowhere s) (omega arith))
+  required_short : length (text_at s value_at) ≤ 2048
+  required_short = short x.require j.require
+    where
+      short : (r : Option Span) → MatchOption r (x.refusal ≡ refusal.Require → ⊥) (RequireIs s x.refusal) → length (text_at s (unwrap_or r nowhere)) ≤ 2048
+      short (Some place) i =
+          let read : request_refusal frontends s ≡ Some refusal.Layout → ⊥ = λ z. let k : Some x.refusal ≡ Some refusal.Layout = sym j.refusal ∙ z in let e = i.is in cc in
+          omega (arith, text_within s place, request_short frontends s read)
+      short None n = rw (text_nowhere s) (omega arith)
 
 -- EVERY ANSWER FITS
 status_read : (q : Refusal) → (reading_rule q).1 < 1000
@@ -252,7 +270,7 @@ pub refusal_fits : (frontends : ℕ) (s : List ℕ) (x : Refused) → RefusedIs 
 unfolding refused_reply
 refusal_fits frontends s x j session =
     subst (λ t. length t ≤ 4096) (refusal_told frontends s x j session)
-    (answer_fits (text_at s x.cseq) (text_at s x.require) (refused_reply x)
+    (answer_fits (text_at s (unwrap_or x.cseq nowhere)) (text_at s (unwrap_or x.require nowhere)) (refused_reply x)
     (record {
       status = omega (arith, status_read x.refusal);
       session = omega arith;
@@ -260,5 +278,5 @@ refusal_fits frontends s x j session =
       address = omega arith;
       port = omega arith;
     })
-    (rw (cseq_told j.cseq) (cseq_short s))
+    (rw (cseq_given s x.cseq j.cseq) (cseq_short s))
     (required_short frontends s x j))

@@ -1,7 +1,7 @@
 -- What the crates promise each other about a request that the reader hands over and the answer that is written, in the numbers and places that
 -- the code hands on. No call of the box reaches these; laws tie them to the meanings of the request's bytes (`Telling`, `ReplyLaws`).
 -- Assumes nothing.
-use Rattle.std.specs.Prelude.{ℕ, cond, List, eqb, ltb, get_or, Option, Some, None}
+use Rattle.std.specs.Prelude.{ℕ, cond, List, eqb, ltb, get_or, Option, Some, None, unwrap_or}
 use Rattle.scan.specs.Lists.{part, ◌gives◌or◌}
 use Rattle.scan.specs.Found.{Holds, nowhere}
 use Rattle.scan.specs.declared.Span.{Span}
@@ -103,10 +103,10 @@ refused_reply refused =
     record {
       kind = refused_kind (Reading refused.refusal);
       status = status_of (Some (Reading refused.refusal));
-      cseq = refused.cseq;
+      cseq = unwrap_or refused.cseq nowhere;
       session = 0;
       stream = 0;
       address = 0;
       port = 0;
-      text = refused.require;
+      text = unwrap_or refused.require nowhere;
     }

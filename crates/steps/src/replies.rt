@@ -71,18 +71,19 @@ pub fn answer_to(case: Option<Case>, r: &Asked, s: Session) -> Answer
 
 // The answer to a request that one of them refuses: it repeats a Require value, where that is why.
 #[tactic(auto, unfolding(crate::specs::Handed::refused_reply))]
-pub fn answer_to_refused(refused: Refused) -> Answer
-    ensures { result ≡ refused_reply refused }
+pub fn answer_to_refused(refused: &Refused) -> Answer
+    ensures { result ≡ refused_reply refused.now }
 {
+    let nowhere = Span { start: 0, end: 0 };
     let case = Case::Reading(refused.refusal);
     Answer {
         kind: refused_kind(case),
         status: cases::status_of(Some(case)) as u32,
-        cseq: refused.cseq,
+        cseq: refused.cseq.unwrap_or(nowhere),
         session: 0,
         stream: 0,
         address: 0,
         port: 0,
-        text: refused.require,
+        text: refused.require.unwrap_or(nowhere),
     }
 }

@@ -6,4 +6,4 @@ pub returns-in_default : goal.returns-in_default
 returns-in_default c = search (cseq_other, rules)
 
 pub returns : goal.returns
-returns c = search (cseq_once, rules)
+returns c = rw c.then_some.ensures (search (cseq_once, rules))
