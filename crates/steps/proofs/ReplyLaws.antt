@@ -1,7 +1,7 @@
 -- What a request is answered with, by the reader's places, is what its bytes say; and every such answer fits its buffer. Assumes nothing.
 use mathlib.Core.Path.{◌≡◌, refl, ap, subst, ◌∙◌, sym}
 use mathlib.Core.Bool.{Bool, true, false, not, cond, ◌&&◌}
-use mathlib.Core.List.{List, []}
+use mathlib.Core.List.{List, [], ◌∷◌}
 use Prim.Native.Nat.{ℕ, ◌≤◌, ◌<◌}
 use native.Mathlib.Omega.{arith}
 use lib.Dec.{eqb, ltb}
@@ -136,7 +136,7 @@ cseq_given s None n = text_nowhere s ∙ sym (none_there (cseq_of s) n)
   where
     none_there : (xs : List ℕ) → is_empty xs ≡ true → xs ≡ []
     none_there [] e = refl
-    none_there (x ∷ xs) e = never (sym e) refl
+    none_there (x ∷ xs) e = never e refl
 
 -- the value of a Require header, where step 5 refuses
 require_given : (s : List ℕ) (x : Refusal) (r : Option Span) → MatchOption r (x ≡ refusal.Require → ⊥) (RequireIs s x) → x ≡ refusal.Require
