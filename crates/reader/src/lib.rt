@@ -135,7 +135,6 @@ fn behind(from: usize, span: Span) -> Span
 }
 
 // Steps 3 to 10 of a request whose layout is whole, and whose CSeq stands at `cseq`.
-#[inline(always)]
 fn read_laid_out(s: &[u8], l: &Lines, cseq: Span, frontends: u8) -> Result<Asked, Refused>
     requires lines { LinesAre s.now l.now }
     requires cseq { CseqIs s.now cseq }

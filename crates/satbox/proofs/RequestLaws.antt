@@ -100,6 +100,12 @@ module _ (s : List ℕ) (address draw : ℕ) (t : SatBox) {b c d : List ℕ} {v 
   pub answer_done : Responds s address draw t b (record { turn = v; count = n }) d
   answer_done = let c = answer_front.1 in record { turn = p; count = c; buffer = rw c answer_front.0 }
 
+-- what a request comes to, and an answer that says so and fits
+pub record IsAnswer (s : List ℕ) (address draw : ℕ) (t : SatBox) (v : Turn) (a : Answer) : Type 0 where
+  pub turn : TurnIs t (answered s address draw t) v
+  pub text : answer_text s a ≡ answer_to s address draw t
+  pub short : length (answer_to s address draw t) ≤ 4096
+
 -- of a request that steps 1 to 10 let through
 module _ (s : List ℕ) (address draw : ℕ) (t : SatBox) (r : Read) (i : AskedIs t.settings.frontends s r) where
   answered_unread : IsUnread (answered s address draw t).case
