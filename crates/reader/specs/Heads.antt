@@ -1,17 +1,17 @@
 -- What the functions of this crate promise each other and the crates above: what a header's place holds, how far a request has come between
 -- them, and where in it stands what it asks. No call of the box reaches it. Assumes nothing.
-use Rattle.std.specs.Prelude.{ℕ, ◌+◌, ◌≤◌, ◌%◌, ◌≡◌, Bool, true, false, cond, ◌||◌, ◌&&◌, List, [], ◌∷◌, ltb, eqb, length, get_or, Option, Some, None, MatchOption}
+use Rattle.std.specs.Prelude.{ℕ, ◌+◌, ◌≤◌, ◌<◌, ◌%◌, ◌≡◌, Bool, true, false, cond, ◌||◌, ◌&&◌, List, [], ◌∷◌, ltb, eqb, length, get_or, Option, Some, None, MatchOption}
 use Rattle.scan.specs.Lists.{part, first}
 use Rattle.scan.specs.Found.{Holds, nowhere}
 use Rattle.digits.specs.Reading.{read_hex8}
 use Rattle.lines.specs.Lines.{is_laid_out, header_lines, request_line}
 use Rattle.lines.specs.Headers.{values_of}
-use Rattle.lines.specs.Laid.{first_value, times_of, place_of, unseen, SeenIs, value_start}
+use Rattle.lines.specs.Laid.{first_value, times_of, place_of, unseen, SeenIs, LinesAre, value_start}
 use Rattle.lines.specs.declared.Seen.{Seen}
 use Rattle.reader.specs.Fields.{session_from, session_of, transport_of}
 use Rattle.target.specs.Uri.{stream_named, host_of, query_of}
 use Rattle.aim.specs.Found.{query_start, start_in}
-use Rattle.reader.specs.Request.{cseq_of, method_of, uri_of, request_refusal}
+use Rattle.reader.specs.Request.{cseq_of, method_of, uri_of, is_twice, request_refusal}
 use Rattle.aim.specs.Aim.{method_number}
 use Rattle.aim.specs.Query.{parts_of, text_in, code_in}
 use Rattle.aim.specs.declared.Method.{Method}
@@ -19,12 +19,15 @@ use Rattle.reader.specs.declared.fields.Session.{Session}
 use Rattle.reader.specs.declared.fields.Session.TheVariants.{Absent}
 use Rattle.scan.specs.declared.Span.{Span}
 use Rattle.target.specs.Line.{line_part}
+use Rattle.target.specs.Steps.{PartsAre}
+use Rattle.target.specs.declared.Parts.{Parts}
+use Rattle.lines.specs.declared.Lines.{Lines}
 use Rattle.refusals.specs.declared.Refusal.{Refusal}
 use Rattle.refusals.specs.declared.Refusal.TheVariants.{Require}
 use Rattle.aim.specs.declared.Method.TheVariants.{Other, Options, Setup, Play, Teardown}
 use Rattle.reader.specs.declared.Asked.{Asked}
 use Rattle.reader.specs.declared.Refused.{Refused}
-use Rattle.scan.specs.Text.{is, before, text, is_empty, place_among}
+use Rattle.scan.specs.Text.{is, before, text, is_empty, are_alike, place_among}
 use Rattle.scan.specs.declared.Case.TheVariants.{Counts}
 
 -- where the URI starts: behind the method and a space
@@ -82,6 +85,28 @@ are_twice headers = is_repeated headers 1 || is_repeated headers 2 || is_repeate
 pub record IsMethod (word : List ℕ) (m : Method) : Type 0 where
   pub is : m ≡ method_in word
   pub named : is_other m ≡ false
+
+abbrev pub is_version : List ℕ → Bool
+is_version s = are_alike Counts (line_part 2 (request_line s)) (text "RTSP/1.0")
+
+abbrev pub are_repeated : List ℕ → Bool
+are_repeated s = is_twice 1 s || is_twice 2 s || is_twice 3 s || is_twice 4 s
+
+-- a request whose layout is whole and whose CSeq was read: past steps 1 and 2
+pub record Begun (s : List ℕ) (l : Lines) (cseq : Span) : Type 0 where
+  pub lines : LinesAre s l
+  pub cseq_is : CseqIs s cseq
+
+-- and whose request line has three parts and the right version, with no header twice and none required: past steps 3 to 5
+pub record Headed (s : List ℕ) (l : Lines) (cseq : Span) (parts : Parts) : Type 0 where
+  pub begun : Begun s l cseq
+  pub parts_are : PartsAre (part 0 l.line s) parts
+  pub once : are_repeated s ≡ false
+  pub version : is_version s ≡ true
+  pub free : ltb 0 (length (values_of 3 (header_lines s))) ≡ false
+  pub line_in : l.line ≤ length s
+  pub first_in : parts.first < parts.second
+  pub second_in : parts.second ≤ l.line
 
 -- where a span of the URI stands in a request in which the URI starts so far from the front
 abbrev pub behind : ℕ → Span → Span

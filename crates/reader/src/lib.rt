@@ -10,13 +10,14 @@ ghost use Rattle.scan.specs.Text.{is_empty};
 ghost use Rattle.lines.specs.Laid.{times_of, LinesAre};
 ghost use Rattle.reader.specs.Fields.{transport_of};
 ghost use Rattle.reader.specs.Request.{cseq_of};
-ghost use Rattle.reader.specs.Heads.{CseqSeen, CseqIs, StandsIn, head_text, session_seen, are_twice, behind, refused_by, IsMethod, AskedIs, RefusedIs, is_other, method_in};
+ghost use Rattle.reader.specs.Heads.{CseqSeen, CseqIs, StandsIn, head_text, session_seen, are_twice, behind, refused_by, IsMethod, Headed, AskedIs, RefusedIs, is_other, method_in};
 
 use aim::Method;
 pub use fields::Session;
 use lines::{Lines, Name, Seen};
 use refusals::Refusal;
 use scan::{Case, Span};
+use target::Parts;
 
 // What a request asks that nothing refuses. `cseq` is where the digits of its CSeq stand; spans of attributes count from the start of the query's.
 #[derive(Clone, Copy)]
@@ -134,32 +135,22 @@ fn behind(from: usize, span: Span) -> Span
     }
 }
 
-// Steps 3 to 10 of a request whose layout is whole, and whose CSeq stands at `cseq`.
-fn read_laid_out(s: &[u8], l: &Lines, cseq: Span, frontends: u8) -> Result<Asked, Refused>
-    requires lines { LinesAre s.now l.now }
-    requires cseq { CseqIs s.now cseq }
+// Steps 6 to 10.
+fn read_method(
+    s: &[u8],
+    l: &Lines,
+    cseq: Span,
+    parts: Parts,
+    frontends: u8,
+) -> Result<Asked, Refused>
+    requires { Headed s.now l.now cseq parts }
     ensures { MatchResult result (AskedIs frontends s.now) (RefusedIs frontends s.now) }
 {
     let end = l.line;
     let line = &s[0..end];
-    let parts = target::request_line(line).ok_or(refuse(Refusal::RequestLine, Some(cseq)))?;
     let space = parts.first;
     let from = space + 1;
     let to = parts.second;
-    let version = to + 1;
-    if are_twice(l) {
-        return Err(refuse(Refusal::HeaderTwice, Some(cseq)));
-    }
-    if !scan::are_alike(&line[version..], b"RTSP/1.0", Case::Counts) {
-        return Err(refuse(Refusal::Version, Some(cseq)));
-    }
-    let require = l.seen(Name::Require).first();
-    if require.is_some() {
-        return Err(Refused {
-            require,
-            ..refuse(Refusal::Require, Some(cseq))
-        });
-    }
     let method = method_in(&line[0..space]).ok_or(refuse(Refusal::Method, Some(cseq)))?;
     match aim::read_aim(method, &line[from..to], frontends) {
         Err(refusal) => Err(refuse(refusal, Some(cseq))),
@@ -181,6 +172,32 @@ fn read_laid_out(s: &[u8], l: &Lines, cseq: Span, frontends: u8) -> Result<Asked
     }
 }
 
+// Steps 3 to 10 of a request whose layout is whole, and whose CSeq stands at `cseq`.
+fn read_line(s: &[u8], l: &Lines, cseq: Span, frontends: u8) -> Result<Asked, Refused>
+    requires lines { LinesAre s.now l.now }
+    requires cseq { CseqIs s.now cseq }
+    ensures { MatchResult result (AskedIs frontends s.now) (RefusedIs frontends s.now) }
+{
+    let end = l.line;
+    let line = &s[0..end];
+    let parts = target::request_line(line).ok_or(refuse(Refusal::RequestLine, Some(cseq)))?;
+    let version = parts.second + 1;
+    if are_twice(l) {
+        return Err(refuse(Refusal::HeaderTwice, Some(cseq)));
+    }
+    if !scan::are_alike(&line[version..], b"RTSP/1.0", Case::Counts) {
+        return Err(refuse(Refusal::Version, Some(cseq)));
+    }
+    let require = l.seen(Name::Require).first();
+    if require.is_some() {
+        return Err(Refused {
+            require,
+            ..refuse(Refusal::Require, Some(cseq))
+        });
+    }
+    read_method(s, l, cseq, parts, frontends)
+}
+
 // Reads a request that was sent to a box with so many frontends: what it asks, or the first of steps 1 to 10 that refuses it.
 pub fn read(s: &[u8], frontends: u8) -> Result<Asked, Refused>
     ensures { MatchResult result (AskedIs frontends s.now) (RefusedIs frontends s.now) }
@@ -189,5 +206,5 @@ pub fn read(s: &[u8], frontends: u8) -> Result<Asked, Refused>
         return Err(refuse(Refusal::Layout, None));
     };
     let cseq = cseq_in(s, lines.seen(Name::CSeq)).ok_or(refuse(Refusal::CSeq, None))?;
-    read_laid_out(s, &lines, cseq, frontends)
+    read_line(s, &lines, cseq, frontends)
 }
