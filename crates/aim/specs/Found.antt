@@ -7,8 +7,8 @@ use Rattle.aim.specs.declared.query.Part.{Part}
 use Rattle.aim.specs.declared.query.Query.{Query}
 use Rattle.aim.specs.Query.{parts_of, attribute_in, are_parts, text_in, code_from, code_in}
 use Rattle.scan.specs.declared.Span.{Span}
-use Rattle.target.specs.Uri.{stream_named, host_of, has_query, query_of}
-use Rattle.target.specs.Steps.{question, UriIs}
+use Rattle.target.specs.Uri.{host_of, has_query, query_of}
+use Rattle.target.specs.Steps.{question, stream_given, UriIs}
 use Rattle.target.specs.declared.Uri.{Uri}
 use Rattle.refusals.specs.declared.Refusal.{Refusal}
 use Rattle.refusals.specs.declared.Refusal.TheVariants.{PidsClash, PidsUnstreamed, NoStream}
@@ -135,7 +135,7 @@ verdict_of method stream q =
 -- what a URI without a query asks, by what was read of it
 abbrev pub unasked : Method → Uri → Result Aim Refusal
 unasked method t =
-    cond (lacks_stream method (not (eqb t.stream 0)) false) (Err NoStream)
+    cond (lacks_stream method (is_some t.stream) false) (Err NoStream)
     (Ok (record { codes = replicate 13 0; spans = replicate 13 nowhere; stream = t.stream; host = t.host; query = None }))
 
 -- the first refusal that applies
@@ -145,7 +145,7 @@ Refuses frontends method u refusal = uri_refusal frontends method u ≡ Some ref
 -- what a URI that nothing refuses asks, and where that stands
 pub record AimIs (frontends : ℕ) (method : Method) (u : List ℕ) (r : Aim) : Type 0 where
   pub passes : uri_refusal frontends method u ≡ None
-  pub stream : Some r.stream ≡ stream_named u
+  pub stream : r.stream ≡ stream_given u
   pub host : Holds u (host_of u) r.host.start r.host.end
   pub query : IfSome r.query (λ q. Holds u (query_of u) q.start q.end)
   pub thirteen : (length r.codes ≡ 13) × (length r.spans ≡ 13)
