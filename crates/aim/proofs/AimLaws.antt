@@ -1,7 +1,7 @@
 -- A URI's refusal: which of the tests of steps 7 to 10 applies first. Assumes nothing.
 use mathlib.Core.Path.{◌≡◌, refl, ap, ◌∙◌, sym}
 use mathlib.Core.Bool.{Bool, true, false, not, cond, ◌&&◌, ◌||◌}
-use mathlib.Core.List.{List, []}
+use mathlib.Core.List.{List, [], ◌∷◌}
 use Prim.Native.Nat.{ℕ, ◌+◌, ◌≤◌, ◌<◌}
 use native.Mathlib.Decide.{ℕ_discrete}
 use native.Mathlib.Omega.{arith}
@@ -12,12 +12,12 @@ use Rattle.scan.specs.Lists.{all, part, first, ◌gives◌or◌}
 use Rattle.scan.specs.Text.{is, cut}
 use Rattle.scan.specs.Found.{Holds, nowhere}
 use Rattle.scan.specs.declared.Span.{Span}
-use Rattle.scan.proofs.Bools.{by_cases, by_test}
+use Rattle.scan.proofs.Bools.{never, by_cases, by_test}
 use Rattle.scan.proofs.Parts.{all_same, holds_nothing, holds_length}
 use Rattle.target.specs.Uri.{is_uri, has_query, query_of, stream_named}
 use Rattle.target.specs.declared.Uri.{Uri}
-use Rattle.aim.specs.Query.{are_parts, text_in, code_from, code_in}
-use Rattle.aim.specs.Found.{is_within, is_query, text_of, QueryIs, query_start, Reached, Refuses, unasked, verdict_of, is_span, AimIs, judged, takes_no_query, lacks_stream}
+use Rattle.aim.specs.Query.{are_parts, attribute_in, text_in, code_from, code_in}
+use Rattle.aim.specs.Found.{is_within, is_query, text_of, QueryIs, Reached, Refuses, unasked, verdict_of, is_span, AimIs, judged, takes_no_query, lacks_stream}
 use Rattle.std.specs.Prelude.{Option, Some, None, Result, Ok, Err, MatchResult, is_some, MatchOption, IfSome, unwrap_or, ok_or, option_and_then}
 use Rattle.std.specs.Bool.{then_some}
 use Rattle.target.specs.Steps.{question, unless}
@@ -114,6 +114,7 @@ module _ (frontends : ℕ) (method : Method) (u : List ℕ) {t : Uri} (r : Reach
         spans = λ a. rw (unqueried u (asks frontends method u r), asks frontends method u r, all_same 13 a nowhere) (holds_nothing []);
         host_starts = r.is.starts;
         query_place = rw (asks frontends method u r);
+        query_some = rw (unqueried u (asks frontends method u r));
         starts = λ a. rw (asks frontends method u r, all_same 13 a nowhere);
       }
 
@@ -128,6 +129,12 @@ span_given {q} {x} s h =
     by_cases (ℕ_discrete (length x) 0)
     (λ z. rw (le-ltb s.start s.end (omega arith), le-ltb 0 (length x) (omega arith)))
     (λ z. rw (lt-ltb s.start s.end (omega arith), lt-ltb 0 (length x) (omega arith)))
+
+-- a query that has its form is not empty
+some_query : (q : List ℕ) → is_query q ≡ true → ltb 0 (length q) ≡ true
+unfolding attribute_in
+some_query [] e = never (sym e) refl
+some_query (x ∷ q) e = refl
 
 module _ (frontends : ℕ) (method : Method) (u : List ℕ) {t : Uri} {start : ℕ} (r : Reached u t (Some start)) where
   query_held : Holds u (query_of u) start (length u)
@@ -171,6 +178,7 @@ module _ (frontends : ℕ) (method : Method) (u : List ℕ) {t : Uri} {start : �
             spans = λ a. rw (asks frontends method u r) (own.spans a);
             host_starts = r.is.starts;
             query_place = rw (asks frontends method u r, place);
+            query_some = sym (some_query (query_of u) own.form);
             starts = λ a. rw (asks frontends method u r) (own.starts a);
           }
         where
@@ -178,13 +186,12 @@ module _ (frontends : ℕ) (method : Method) (u : List ℕ) {t : Uri} {start : �
           place = let z : Some start ≡ then_some (has_query u) (question u + 1) = sym r.query ∙ r.is.place in let y : Some start ≡ Some (question u + 1) = z ∙ rw (asks frontends method u r) in cc
 
 -- where the query of what was read stands, 0 to 0 where there is none
-pub queried : {frontends : ℕ} {method : Method} {u : List ℕ} {r : Aim} → AimIs frontends method u r
-    → Holds u (query_of u) (unwrap_or r.query nowhere).start (unwrap_or r.query nowhere).end × ((unwrap_or r.query nowhere).start ≡ query_start u)
+pub queried : {frontends : ℕ} {method : Method} {u : List ℕ} {r : Aim} → AimIs frontends method u r → Holds u (query_of u) (unwrap_or r.query nowhere).start (unwrap_or r.query nowhere).end
 queried {u = u} {r} i = by (has_query u) refl r.query i.query_place i.query
   where
     by : (t : Bool) → has_query u ≡ t → (q : Option Span) → q ≡ then_some t (record { start = question u + 1; end = length u }) → IfSome q (λ x. Holds u (query_of u) x.start x.end)
-        → Holds u (query_of u) (unwrap_or q nowhere).start (unwrap_or q nowhere).end × ((unwrap_or q nowhere).start ≡ cond t (question u + 1) 0)
-    by true e (Some x) p h = (h, cc)
+        → Holds u (query_of u) (unwrap_or q nowhere).start (unwrap_or q nowhere).end
+    by true e (Some x) p h = h
     by true e None p h = cc
     by false e (Some x) p h = cc
-    by false e None p h = (rw (unqueried u e) (holds_nothing u), refl)
+    by false e None p h = rw (unqueried u e) (holds_nothing u)

@@ -101,10 +101,6 @@ start_in a u = cond (has_query u) (start_of a (query_of u)) 0
 abbrev pub query_span : List ℕ → Option Span
 query_span u = then_some (has_query u) (record { start = question u + 1; end = length u })
 
--- and where it starts, 0 where there is none
-abbrev pub query_start : List ℕ → ℕ
-query_start u = cond (has_query u) (question u + 1) 0
-
 -- a URI of right length and form, whose query starts at a place if there is one
 pub record Reached (u : List ℕ) (t : Uri) (start : Option ℕ) : Type 0 where
   pub short : length u ≤ 1024
@@ -153,4 +149,5 @@ pub record AimIs (frontends : ℕ) (method : Method) (u : List ℕ) (r : Aim) : 
   pub spans : (a : ℕ) → Holds (query_of u) (text_in a (parts_of u)) (get_or r.spans a nowhere).start (get_or r.spans a nowhere).end
   pub host_starts : r.host.start ≡ 7
   pub query_place : r.query ≡ query_span u
+  pub query_some : is_some r.query ≡ ltb 0 (length (query_of u))
   pub starts : (a : ℕ) → (get_or r.spans a nowhere).start ≡ start_in a u

@@ -23,7 +23,6 @@ use Rattle.target.specs.Uri.{is_uri}
 use Rattle.target.specs.Steps.{PartsAre, UriIs}
 use Rattle.target.specs.declared.Parts.{Parts}
 use Rattle.target.specs.declared.Uri.{Uri}
-use Rattle.aim.specs.Query.{code_from}
 use Rattle.aim.specs.Found.{AimIs, Refuses}
 use Rattle.aim.specs.declared.Aim.{Aim}
 use Rattle.aim.specs.declared.Method.{Method as Methods}
@@ -95,7 +94,7 @@ uri_same u x y = option_same (UriIs u) x y (λ a p n. never p.form n) both
     both : (a b : Uri) → UriIs u a → UriIs u b → a ≡ b
     both a b p q =
         let d : a.query ≡ b.query = p.place ∙ sym q.place in
-        let e : a.stream ≡ b.stream = ap code_from (p.stream ∙ sym q.stream) in
+        let e : a.stream ≡ b.stream = p.stream ∙ sym q.stream in
         let f : a.host ≡ b.host = span_same (p.starts ∙ sym q.starts) p.host q.host in
         λ i. record { query = d i; stream = e i; host = f i }
 
@@ -108,7 +107,7 @@ module _ (frontends : ℕ) (m : Methods) (u : List ℕ) where
   both_aims a b p q =
       let c : a.codes ≡ b.codes = ext_get_or 0 a.codes b.codes (p.thirteen.0 ∙ sym q.thirteen.0) (λ k _. p.codes k ∙ sym (q.codes k)) in
       let d : a.spans ≡ b.spans = ext_get_or nowhere a.spans b.spans (p.thirteen.1 ∙ sym q.thirteen.1) (λ k _. span_same (p.starts k ∙ sym (q.starts k)) (p.spans k) (q.spans k)) in
-      let e : a.stream ≡ b.stream = ap code_from (p.stream ∙ sym q.stream) in
+      let e : a.stream ≡ b.stream = p.stream ∙ sym q.stream in
       let f : a.host ≡ b.host = span_same (p.host_starts ∙ sym q.host_starts) p.host q.host in
       let g : a.query ≡ b.query = p.query_place ∙ sym q.query_place in
       λ i. record { codes = c i; spans = d i; stream = e i; host = f i; query = g i }
@@ -134,9 +133,9 @@ module _ (frontends : ℕ) (s : List ℕ) where
       let d : a.spans ≡ b.spans = ext_get_or nowhere a.spans b.spans (p.thirteen.1 ∙ sym q.thirteen.1) (λ k _. span_same (p.starts k ∙ sym (q.starts k)) (p.spans k) (q.spans k)) in
       let e : a.cseq ≡ b.cseq = cseq_same s p.cseq q.cseq in
       let f : a.method ≡ b.method = p.method ∙ sym q.method in
-      let g : a.stream ≡ b.stream = ap code_from (p.stream ∙ sym q.stream) in
+      let g : a.stream ≡ b.stream = p.stream ∙ sym q.stream in
       let h : a.host ≡ b.host = span_same (p.host_starts ∙ sym q.host_starts) p.host q.host in
-      let j : a.query ≡ b.query = span_same (p.query_starts ∙ sym q.query_starts) p.query q.query in
+      let j : a.query ≡ b.query = p.query ∙ sym q.query in
       let k : a.session ≡ b.session = p.session ∙ sym q.session in
       let l : a.transport ≡ b.transport = p.transport ∙ sym q.transport in
       λ i. record {

@@ -21,7 +21,7 @@ use Rattle.digits.proofs.Limits.{are_digits_law}
 use Rattle.lines.specs.Lines.{is_laid_out, request_line, header_lines}
 use Rattle.lines.specs.Headers.{values_of}
 use Rattle.lines.specs.Laid.{first_value, times_of, first_seen, place_of, unseen, SeenIs, LinesAre, value_start}
-use Rattle.std.specs.Prelude.{Some, None, Option, MatchOption, is_some, unwrap_or, Result, Err}
+use Rattle.std.specs.Prelude.{Some, None, Option, MatchOption, is_some, unwrap_or, option_map, Result, Err}
 use Rattle.std.specs.Option.{ok_or}
 use Rattle.std.specs.Bool.{then_some}
 use Rattle.lines.specs.declared.Seen.{Seen}
@@ -31,7 +31,7 @@ use Rattle.target.specs.Line.{is_three, line_part}
 use Rattle.target.specs.Steps.{PartsAre}
 use Rattle.target.specs.declared.Parts.{Parts}
 use Rattle.reader.specs.Fields.{session_of, transport_of}
-use Rattle.reader.specs.Heads.{CseqSeen, CseqIs, StandsIn, session_in, head_text, session_seen, are_twice, uri_start, IsMethod, is_version, are_repeated, Begun, Headed, AskedIs, RefusedIs, RequireIs, refused_by, is_other, method_in}
+use Rattle.reader.specs.Heads.{CseqSeen, CseqIs, StandsIn, session_in, head_text, session_seen, are_twice, uri_start, IsMethod, AskedIs, RefusedIs, RequireIs, behind, refused_by, is_other, method_in}
 use Rattle.aim.specs.Aim.{uri_refusal}
 use Rattle.aim.specs.Found.{AimIs, Refuses}
 use Rattle.aim.proofs.AimLaws.{queried}
@@ -140,12 +140,32 @@ module _ {s : List ℕ} {seen : Seen} {place : Span} (o : seen ≡ Once place) (
       let t = is_some (read_in 10 cseq_most cseq_limit value) in
       here t refl (w.is ∙ ap (λ v. cond (is_some (read_in 10 cseq_most cseq_limit v)) place nowhere) value_is) (rw value_is at w.holds)
 
+mapped_some : {A B : Type 0} (f : A → B) (o : Option A) → is_some (option_map f o) ≡ is_some o
+mapped_some f (Some x) = refl
+mapped_some f None = refl
+
 -- HOW FAR IT HAS COME
--- what is missing is refused as the caller says
-pub none_handed : {A E : Type 0} (P : Type 0) (Q : A → Type 0) {o : Option A} {x e y : E} → MatchOption o P Q → o ≡ None → Err e ≡ ok_or o x → y ≡ e → P × (y ≡ x)
-none_handed {A} {E} P Q {x = x} {e} h z v u =
-    let w : ◌≡◌ {A = Result A E} (Err e) (Err x) = v ∙ ap (λ p. ok_or p x) z in
-    (rw z at h, cc)
+abbrev pub is_version : List ℕ → Bool
+is_version s = are_alike Counts (line_part 2 (request_line s)) (text "RTSP/1.0")
+
+abbrev pub are_repeated : List ℕ → Bool
+are_repeated s = is_twice 1 s || is_twice 2 s || is_twice 3 s || is_twice 4 s
+
+-- a request whose layout is whole and whose CSeq was read: past steps 1 and 2
+pub record Begun (s : List ℕ) (l : Lines) (cseq : Span) : Type 0 where
+  pub lines : LinesAre s l
+  pub cseq_is : CseqIs s cseq
+
+-- and whose request line has three parts and the right version, with no header twice and none required: past steps 3 to 5
+pub record Headed (s : List ℕ) (l : Lines) (cseq : Span) (parts : Parts) : Type 0 where
+  pub begun : Begun s l cseq
+  pub parts_are : PartsAre (part 0 l.line s) parts
+  pub once : are_repeated s ≡ false
+  pub version : is_version s ≡ true
+  pub free : ltb 0 (length (values_of 3 (header_lines s))) ≡ false
+  pub line_in : l.line ≤ length s
+  pub first_in : parts.first < parts.second
+  pub second_in : parts.second ≤ l.line
 
 pub begun : {s : List ℕ} {l : Lines} {c : Span} → LinesAre s l → CseqIs s c → Begun s l c
 begun l i = record { lines = l; cseq_is = i }
@@ -258,6 +278,12 @@ module _ (frontends : ℕ) (s : List ℕ) {l : Lines} {c : Span} {p : Parts} (h 
         (holds_inside 0 l.line s refl (omega arith) h.line_in
         (holds_inside (p.first + 1) p.second (part 0 l.line s) (sym uri_held) (omega (arith, h.first_in)) (omega (arith, h.second_in)) x))
 
+    -- a query of the URI, by its place in the request
+    moved_query : {ys : List ℕ} (q : Option Span) → Holds (uri_of s) ys (unwrap_or q nowhere).start (unwrap_or q nowhere).end
+        → Holds s ys (unwrap_or (option_map (behind (p.first + 1)) q) nowhere).start (unwrap_or (option_map (behind (p.first + 1)) q) nowhere).end
+    moved_query (Some q) x = moved x
+    moved_query {ys} None x = let e : [] ≡ ys = x.is in rw (← e) (holds_nothing s)
+
     -- or by none
     pub request_asked : {a : Aim} {x : Session} {y : Option ℕ} → AimIs frontends m (part (p.first + 1) p.second (part 0 l.line s)) a
         → x ≡ session_seen s (get_or l.headers 1 unseen) → y ≡ transport_of (head_text s (get_or l.headers 2 unseen))
@@ -268,7 +294,7 @@ module _ (frontends : ℕ) (s : List ℕ) {l : Lines} {c : Span} {p : Parts} (h 
           method = m;
           stream = a.stream;
           host = record { start = p.first + 1 + a.host.start; end = p.first + 1 + a.host.end };
-          query = record { start = p.first + 1 + (unwrap_or a.query nowhere).start; end = p.first + 1 + (unwrap_or a.query nowhere).end };
+          query = option_map (behind (p.first + 1)) a.query;
           session = x;
           transport = y;
         })
@@ -281,11 +307,12 @@ module _ (frontends : ℕ) (s : List ℕ) {l : Lines} {c : Span} {p : Parts} (h 
           method = e;
           stream = i.stream;
           host = moved i.host;
-          query = moved (queried i).0;
+          query = rw (uri_starts, i.query_place);
+          query_held = moved_query a.query (queried i);
+          query_some = mapped_some (behind (p.first + 1)) a.query ∙ i.query_some;
           codes = i.codes;
           spans = i.spans;
           host_starts = rw (uri_starts, i.host_starts);
-          query_starts = rw (uri_starts, (queried i).1);
           starts = i.starts;
           session = x ∙ seen_session (h.begun.lines.headers 1 (omega arith));
           transport = y ∙ ap transport_of (seen_text (h.begun.lines.headers 2 (omega arith)));

@@ -1,6 +1,6 @@
 -- What the functions of this crate promise each other and the crates above: what a header's place holds, how far a request has come between
 -- them, and where in it stands what it asks. No call of the box reaches it. Assumes nothing.
-use Rattle.std.specs.Prelude.{ℕ, ◌+◌, ◌≤◌, ◌<◌, ◌%◌, ◌≡◌, Bool, true, false, cond, ◌||◌, ◌&&◌, List, [], ◌∷◌, ltb, eqb, length, get_or, Option, Some, None, MatchOption}
+use Rattle.std.specs.Prelude.{ℕ, ◌+◌, ◌≤◌, ◌%◌, ◌≡◌, Bool, true, false, cond, ◌||◌, ◌&&◌, List, [], ◌∷◌, ltb, eqb, length, get_or, Option, Some, None, MatchOption, is_some, option_map, unwrap_or}
 use Rattle.scan.specs.Lists.{part, first}
 use Rattle.scan.specs.Found.{Holds, nowhere}
 use Rattle.digits.specs.Reading.{read_hex8}
@@ -9,9 +9,10 @@ use Rattle.lines.specs.Headers.{values_of}
 use Rattle.lines.specs.Laid.{first_value, times_of, place_of, unseen, SeenIs, LinesAre, value_start}
 use Rattle.lines.specs.declared.Seen.{Seen}
 use Rattle.reader.specs.Fields.{session_from, session_of, transport_of}
-use Rattle.target.specs.Uri.{stream_named, host_of, query_of}
-use Rattle.aim.specs.Found.{query_start, start_in}
-use Rattle.reader.specs.Request.{cseq_of, method_of, uri_of, is_twice, request_refusal}
+use Rattle.target.specs.Uri.{host_of, query_of}
+use Rattle.target.specs.Steps.{stream_given}
+use Rattle.aim.specs.Found.{query_span, start_in}
+use Rattle.reader.specs.Request.{cseq_of, method_of, uri_of, request_refusal}
 use Rattle.aim.specs.Aim.{method_number}
 use Rattle.aim.specs.Query.{parts_of, text_in, code_in}
 use Rattle.aim.specs.declared.Method.{Method}
@@ -128,15 +129,16 @@ pub record AskedIs (frontends : ℕ) (s : List ℕ) (r : Asked) : Type 0 where
   pub thirteen : (length r.codes ≡ 13) × (length r.spans ≡ 13)
   pub cseq : CseqIs s r.cseq
   pub method : r.method ≡ method_of s
-  pub stream : Some r.stream ≡ stream_named (uri_of s)
+  pub stream : r.stream ≡ stream_given (uri_of s)
   pub host : Holds s (host_of (uri_of s)) r.host.start r.host.end
-  pub query : Holds s (query_of (uri_of s)) r.query.start r.query.end
+  pub query : r.query ≡ option_map (behind (uri_start s)) (query_span (uri_of s))
+  pub query_held : Holds s (query_of (uri_of s)) (unwrap_or r.query nowhere).start (unwrap_or r.query nowhere).end
+  pub query_some : is_some r.query ≡ ltb 0 (length (query_of (uri_of s)))
   pub codes : (a : ℕ) → get_or r.codes a 0 ≡ code_in frontends a (parts_of (uri_of s))
   pub spans : (a : ℕ) → Holds (query_of (uri_of s)) (text_in a (parts_of (uri_of s))) (get_or r.spans a nowhere).start (get_or r.spans a nowhere).end
   pub session : r.session ≡ session_of (values_of 1 (header_lines s))
   pub transport : r.transport ≡ transport_of (first_value (values_of 2 (header_lines s)))
   pub host_starts : r.host.start ≡ uri_start s + 7
-  pub query_starts : r.query.start ≡ uri_start s + query_start (uri_of s)
   pub starts : (a : ℕ) → (get_or r.spans a nowhere).start ≡ start_in a (uri_of s)
 
 -- the first of steps 1 to 10 that refuses, and where that stands which its answer repeats

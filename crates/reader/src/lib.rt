@@ -5,9 +5,9 @@
 
 mod fields;
 
-ghost use Rattle.std.specs.Prelude.{◌≡◌, ◌+◌, ◌<◌, ◌^◌, true, ltb, MatchOption, MatchResult};
+ghost use Rattle.std.specs.Prelude.{◌≡◌, ◌+◌, ◌<◌, ◌^◌, true, MatchOption, MatchResult};
 ghost use Rattle.scan.specs.Text.{is_empty};
-ghost use Rattle.lines.specs.Laid.{times_of, LinesAre};
+ghost use Rattle.lines.specs.Laid.{LinesAre};
 ghost use Rattle.reader.specs.Fields.{transport_of};
 ghost use Rattle.reader.specs.Request.{cseq_of};
 ghost use Rattle.reader.specs.Heads.{CseqSeen, CseqIs, StandsIn, head_text, session_seen, are_twice, behind, refused_by, IsMethod, Headed, AskedIs, RefusedIs, is_other, method_in};
@@ -20,15 +20,16 @@ use scan::{Case, Span};
 use target::Parts;
 
 // What a request asks that nothing refuses. `cseq` is where the digits of its CSeq stand; spans of attributes count from the start of the query's.
-#[derive(Clone, Copy)]
+#[derive(Clone, Copy, PartialEq, Eq, Debug)]
 pub struct Asked {
     pub codes: [u32; 13],
     pub spans: [Span; 13],
     pub cseq: Span,
     pub method: Method,
-    pub stream: u32,
+    // The stream that its URI names, 1 to 65535.
+    pub stream: Option<u32>,
     pub host: Span,
-    pub query: Span,
+    pub query: Option<Span>,
     pub session: Session,
     // The first of the two ports of a Transport header, where it is of the one form allowed.
     pub transport: Option<u32>,
@@ -36,7 +37,7 @@ pub struct Asked {
 
 // Why a request is refused, and what its answer repeats: where the digits of its CSeq stand, if it has one, and the value of a Require header, where that is
 // what refuses it.
-#[derive(Clone, Copy)]
+#[derive(Clone, Copy, PartialEq, Eq, Debug)]
 pub struct Refused {
     pub refusal: Refusal,
     pub cseq: Option<Span>,
@@ -88,20 +89,14 @@ fn transport_at(s: &[u8], seen: Seen) -> Option<u32>
     fields::transport_in(&s[start..end])
 }
 
-fn is_again(seen: Seen) -> bool
-    ensures { result ≡ ltb 1 (times_of seen) }
-{
-    matches!(seen, Seen::Again(_))
-}
-
 // Whether a known header other than CSeq was sent twice.
 fn are_twice(l: &Lines) -> bool
     ensures { result ≡ are_twice l.now.headers }
 {
-    is_again(l.seen(Name::Session))
-        | is_again(l.seen(Name::Transport))
-        | is_again(l.seen(Name::Require))
-        | is_again(l.seen(Name::Accept))
+    matches!(l.seen(Name::Session), Seen::Again(_))
+        | matches!(l.seen(Name::Transport), Seen::Again(_))
+        | matches!(l.seen(Name::Require), Seen::Again(_))
+        | matches!(l.seen(Name::Accept), Seen::Again(_))
 }
 
 // The method that a text is, if it is one; its case counts.
@@ -164,7 +159,7 @@ fn read_method(
                 method,
                 stream: aim.stream,
                 host: behind(from, aim.host),
-                query: behind(from, aim.query.unwrap_or(Span { start: 0, end: 0 })),
+                query: aim.query.map(|query| behind(from, query)),
                 session: session_at(s, l.seen(Name::Session)),
                 transport: transport_at(s, l.seen(Name::Transport)),
             })

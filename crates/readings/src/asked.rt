@@ -46,11 +46,18 @@ fn attributes(rt: &impl Print, query: &[u8], asked: &Asked) -> io::Result<()> {
 fn passed(rt: &impl Print, s: &[u8], asked: &Asked) -> io::Result<()> {
     print!(rt; " step 0 status 200 cseq ")?;
     out::digits(rt, s, Some(asked.cseq))?;
-    print!(rt; " method {} stream {} host ", method(asked.method), asked.stream)?;
+    print!(rt;
+        " method {} stream {} host ",
+        method(asked.method),
+        asked.stream.unwrap_or(0)
+    )?;
     out::part(rt, s, asked.host)?;
     session(rt, asked.session)?;
     transport(rt, asked.transport)?;
-    match s.get(asked.query.start..asked.query.end) {
+    let Some(query) = asked.query else {
+        return Ok(());
+    };
+    match s.get(query.start..query.end) {
         Some(query) => attributes(rt, query, asked),
         None => Ok(()),
     }

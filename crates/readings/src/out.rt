@@ -8,8 +8,8 @@ pub(crate) fn digits(rt: &impl Print, s: &[u8], place: Option<Span>) -> io::Resu
         return print!(rt; "-");
     };
     match s.get(place.start..place.end) {
-        Some([]) | None => print!(rt; "-"),
         Some(digits) => rt.write_all(digits),
+        None => print!(rt; "-"),
     }
 }
 

@@ -22,10 +22,11 @@ use Rattle.digits.proofs.Limits.{number_between}
 use Rattle.lines.specs.Lines.{is_laid_out, request_line, header_lines}
 use Rattle.lines.specs.Headers.{values_of}
 use Rattle.target.specs.Line.{is_three, line_part}
-use Rattle.target.specs.Uri.{starts_with, query_of}
+use Rattle.target.specs.Uri.{starts_with, stream_named}
 use Rattle.tuning.specs.Values.{value_of}
 use Rattle.stream.specs.Arrays.{kept, is_fit, are_fit, is_in}
 use Rattle.stream.proofs.Fitting.{all_in, fit_of, read_ranged}
+use Rattle.aim.proofs.AimLaws.{given_code}
 use Rattle.aim.specs.Query.{code_from, parts_of, text_in, code_in}
 use Rattle.refusals.specs.declared.Refusal.{Refusal}
 use Rattle.refusals.specs.declared.Refusal.TheVariants.{Layout, CSeq, RequestLine, HeaderTwice, Version, Require}
@@ -66,24 +67,17 @@ module _ (frontends : ℕ) (s : List ℕ) (r : Read) (i : AskedIs frontends s r)
       ext_get_or 0 r.codes (codes_in frontends (uri_of s)) (i.thirteen.0 ∙ sym (codes_length frontends (uri_of s)))
       (λ a h. i.codes a ∙ sym (code_at frontends a (uri_of s) (omega (arith, i.thirteen.0))))
 
-  query_told : ltb r.query.start r.query.end ≡ ltb 0 (length (query_of (uri_of s)))
-  query_told =
-      let n : r.query.end ≡ r.query.start + length (query_of (uri_of s)) = holds_length i.query in
-      by_cases (ℕ_discrete (length (query_of (uri_of s))) 0)
-      (λ z. rw (le-ltb r.query.start r.query.end (omega arith), le-ltb 0 (length (query_of (uri_of s))) (omega arith)))
-      (λ z. rw (lt-ltb r.query.start r.query.end (omega arith), lt-ltb 0 (length (query_of (uri_of s))) (omega arith)))
-
   pub asked_told : asked_by r ≡ asked_of frontends s
-  asked_told = rw (i.method, ← i.stream, codes_told, query_told, i.session, i.transport)
+  asked_told = rw (i.method, i.stream, given_code (stream_named (uri_of s)), codes_told, i.query_some, i.session, i.transport)
 
   pub lists_told : lists_by s r ≡ lists_of s
-  lists_told = rw (i.query.is, (i.spans 10).is, (i.spans 11).is, (i.spans 12).is)
+  lists_told = rw (i.query_held.is, (i.spans 10).is, (i.spans 11).is, (i.spans 12).is)
 
   pub told : Told s r
   told =
       record {
-        query = record { order = i.query.order; within = i.query.within; is = refl };
-        list = λ a. rw i.query.is (record { order = (i.spans a).order; within = (i.spans a).within; is = refl });
+        query = record { order = i.query_held.order; within = i.query_held.within; is = refl };
+        list = λ a. rw i.query_held.is (record { order = (i.spans a).order; within = (i.spans a).within; is = refl });
       }
 
 -- WHAT IS READ OF A TEXT IS IN RANGE

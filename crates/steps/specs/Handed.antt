@@ -1,7 +1,7 @@
 -- What the crates promise each other about a request that the reader hands over and the answer that is written, in the numbers and places that
 -- the code hands on. No call of the box reaches these; laws tie them to the meanings of the request's bytes (`Telling`, `ReplyLaws`).
 -- Assumes nothing.
-use Rattle.std.specs.Prelude.{ℕ, cond, List, eqb, ltb, get_or, Option, Some, None, unwrap_or}
+use Rattle.std.specs.Prelude.{ℕ, cond, List, eqb, get_or, Option, Some, None, is_some, unwrap_or}
 use Rattle.scan.specs.Lists.{part, ◌gives◌or◌}
 use Rattle.scan.specs.Found.{Holds, nowhere}
 use Rattle.scan.specs.declared.Span.{Span}
@@ -23,9 +23,9 @@ abbrev pub asked_by : Read → Asked
 asked_by r =
     record {
       method = r.method;
-      stream = r.stream;
+      stream = unwrap_or r.stream 0;
       codes = r.codes;
-      query = ltb r.query.start r.query.end;
+      query = is_some r.query;
       session = r.session;
       transport = r.transport;
     }
@@ -47,8 +47,12 @@ sighted a place session frontend reach =
       reach = reach;
     }
 
+-- where its query stands, 0 to 0 where it has none
+abbrev pub query_at : Read → Span
+query_at r = unwrap_or r.query nowhere
+
 abbrev pub query_by : List ℕ → Read → List ℕ
-query_by s r = part r.query.start r.query.end s
+query_by s r = part (query_at r).start (query_at r).end s
 
 abbrev pub span_in : Read → ℕ → Span
 span_in r attribute = get_or r.spans attribute nowhere
@@ -61,7 +65,7 @@ lists_by s r = record { pids = list_by s r 10; addpids = list_by s r 11; delpids
 
 -- its places are places of the request
 pub record Told (s : List ℕ) (r : Read) : Type 0 where
-  pub query : Holds s (query_by s r) r.query.start r.query.end
+  pub query : Holds s (query_by s r) (query_at r).start (query_at r).end
   pub list : (attribute : ℕ) → Holds (query_by s r) (list_by s r attribute) (span_in r attribute).start (span_in r attribute).end
 
 -- WHICH ANSWER IT GETS

@@ -61,10 +61,10 @@ pub fn sight_of(r: &Asked, place: usize, session: Session, frontend: u8, reach: 
     Sight {
         method: r.method,
         absent: is_absent(r.session),
-        stream: r.stream,
+        stream: r.stream.unwrap_or(0),
         fe: r.codes[1],
         src: r.codes[0],
-        query: r.query.start < r.query.end,
+        query: r.query.is_some(),
         port: r.transport.unwrap_or(0),
         place,
         session,
