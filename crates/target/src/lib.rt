@@ -1,7 +1,7 @@
 // What a request is aimed at: the three parts of its request line, and its URI's form, stream, host and query. Every function has an
 // answer for all bytes. A request line's bytes are looked at once each (those of the sixteen in which the second space stands twice); a
-// URI's at most twice each (those of its host for `/` and by their class), but the first digit of a stream's number three times, and those of
-// its query never. No byte is copied.
+// URI's at most twice each (those of its host for `/` and by their class), but three times the byte behind its host and the first digit of a
+// stream's number, and never those of its query. No byte is copied.
 #![tactic(auto)]
 
 ghost use Rattle.std.specs.Prelude.{◌≡◌, false, MatchOption};
