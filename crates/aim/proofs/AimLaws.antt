@@ -133,7 +133,7 @@ span_given {q} {x} s h =
 -- a query that has its form is not empty
 some_query : (q : List ℕ) → is_query q ≡ true → ltb 0 (length q) ≡ true
 unfolding attribute_in
-some_query [] e = never (sym e) refl
+some_query [] e = never e refl
 some_query (x ∷ q) e = refl
 
 module _ (frontends : ℕ) (method : Method) (u : List ℕ) {t : Uri} {start : ℕ} (r : Reached u t (Some start)) where

@@ -108,7 +108,9 @@ fn asked(method: Method, u: &[u8], uri: Uri, start: usize, frontends: u8) -> Res
     if takes_no_query(method) {
         return Err(Refusal::QueryUntaken);
     }
-    let q = query::read_query(&u[start..], frontends).ok_or(Refusal::QueryForm)?;
+    let Some(q) = query::read_query(&u[start..], frontends) else {
+        return Err(Refusal::QueryForm);
+    };
     verdict(method, uri.stream.is_some(), &q)?;
     Ok(Aim {
         codes: q.codes,

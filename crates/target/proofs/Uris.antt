@@ -88,9 +88,9 @@ module _ (p : List ℕ) {t : Bool} (e : t ≡ starts_with (text "stream=") p) wh
   stream_is y {v} q = q ∙ rw (part_rest 7 (length p) p (omega arith), sym e ∙ not-false t y)
 
 -- what is read of a path, which is none where the path is empty, and what that says of the meaning
-pub record PathIs (p : List ℕ) (stream : Option ℕ) : Type 0 where
+pub record PathIs (p : List ℕ) (r : Option ℕ) : Type 0 where
   pub form : is_some (stream_of_path p) ≡ true
-  pub stream : stream ≡ option_and_then (unless 0) (stream_of_path p)
+  pub stream : r ≡ option_and_then (unless 0) (stream_of_path p)
 
 pub path_none : (p : List ℕ) → length p ≡ 0 → PathIs p None
 unfolding stream_of_path
