@@ -134,7 +134,7 @@ span_given {q} {x} s h =
 some_query : (q : List ℕ) → is_query q ≡ true → ltb 0 (length q) ≡ true
 unfolding attribute_in
 some_query [] e = never e refl
-some_query (x ∷ q) e = refl
+some_query (x ∷ q) e = lt-ltb 0 (length (x ∷ q)) (omega arith)
 
 module _ (frontends : ℕ) (method : Method) (u : List ℕ) {t : Uri} {start : ℕ} (r : Reached u t (Some start)) where
   query_held : Holds u (query_of u) start (length u)

@@ -5,7 +5,7 @@
 
 mod fields;
 
-ghost use Rattle.std.specs.Prelude.{◌≡◌, ◌+◌, ◌<◌, ◌^◌, true, MatchOption, MatchResult};
+ghost use Rattle.std.specs.Prelude.{◌≡◌, ◌+◌, ◌<◌, ◌^◌, true, IfSome, option_map, MatchOption, MatchResult};
 ghost use Rattle.scan.specs.Text.{is_empty};
 ghost use Rattle.lines.specs.Laid.{LinesAre};
 ghost use Rattle.reader.specs.Fields.{transport_of};
@@ -130,15 +130,18 @@ fn behind(from: usize, span: Span) -> Span
     }
 }
 
-// Steps 6 to 10.
-fn read_method(
-    s: &[u8],
-    l: &Lines,
-    cseq: Span,
-    parts: Parts,
-    frontends: u8,
-) -> Result<Asked, Refused>
-    requires { Headed s.now l.now cseq parts }
+// And where its query does, if it has one.
+fn query_behind(from: usize, query: Option<Span>) -> Option<Span>
+    requires { IfSome query (λ q. (from + q.start < 2 ^ 64) × (from + q.end < 2 ^ 64)) }
+    ensures { result ≡ option_map (behind from) query }
+{
+    Some(behind(from, query?))
+}
+
+// Steps 3 to 10 of a request whose layout is whole, and whose CSeq stands at `cseq`.
+fn read_laid_out(s: &[u8], l: &Lines, cseq: Span, frontends: u8) -> Result<Asked, Refused>
+    requires lines { LinesAre s.now l.now }
+    requires cseq { CseqIs s.now cseq }
     ensures { MatchResult result (AskedIs frontends s.now) (RefusedIs frontends s.now) }
 {
     let end = l.line;
@@ -159,7 +162,7 @@ fn read_method(
                 method,
                 stream: aim.stream,
                 host: behind(from, aim.host),
-                query: aim.query.map(|query| behind(from, query)),
+                query: query_behind(from, aim.query),
                 session: session_at(s, l.seen(Name::Session)),
                 transport: transport_at(s, l.seen(Name::Transport)),
             })
