@@ -31,7 +31,7 @@ use Rattle.target.specs.Line.{is_three, line_part}
 use Rattle.target.specs.Steps.{PartsAre}
 use Rattle.target.specs.declared.Parts.{Parts}
 use Rattle.reader.specs.Fields.{session_of, transport_of}
-use Rattle.reader.specs.Heads.{CseqSeen, CseqIs, StandsIn, session_in, head_text, session_seen, are_twice, uri_start, IsMethod, AskedIs, RefusedIs, RequireIs, behind, refused_by, is_other, method_in}
+use Rattle.reader.specs.Heads.{CseqSeen, CseqIs, StandsIn, session_in, head_text, session_seen, are_twice, uri_start, IsMethod, AskedIs, RefusedIs, RequireIs, is_version, are_repeated, Begun, Headed, behind, refused_by, is_other, method_in}
 use Rattle.aim.specs.Aim.{uri_refusal}
 use Rattle.aim.specs.Found.{AimIs, Refuses}
 use Rattle.aim.proofs.AimLaws.{queried}
@@ -145,28 +145,6 @@ mapped_some f (Some x) = refl
 mapped_some f None = refl
 
 -- HOW FAR IT HAS COME
-abbrev pub is_version : List ℕ → Bool
-is_version s = are_alike Counts (line_part 2 (request_line s)) (text "RTSP/1.0")
-
-abbrev pub are_repeated : List ℕ → Bool
-are_repeated s = is_twice 1 s || is_twice 2 s || is_twice 3 s || is_twice 4 s
-
--- a request whose layout is whole and whose CSeq was read: past steps 1 and 2
-pub record Begun (s : List ℕ) (l : Lines) (cseq : Span) : Type 0 where
-  pub lines : LinesAre s l
-  pub cseq_is : CseqIs s cseq
-
--- and whose request line has three parts and the right version, with no header twice and none required: past steps 3 to 5
-pub record Headed (s : List ℕ) (l : Lines) (cseq : Span) (parts : Parts) : Type 0 where
-  pub begun : Begun s l cseq
-  pub parts_are : PartsAre (part 0 l.line s) parts
-  pub once : are_repeated s ≡ false
-  pub version : is_version s ≡ true
-  pub free : ltb 0 (length (values_of 3 (header_lines s))) ≡ false
-  pub line_in : l.line ≤ length s
-  pub first_in : parts.first < parts.second
-  pub second_in : parts.second ≤ l.line
-
 pub begun : {s : List ℕ} {l : Lines} {c : Span} → LinesAre s l → CseqIs s c → Begun s l c
 begun l i = record { lines = l; cseq_is = i }
 

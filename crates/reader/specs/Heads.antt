@@ -1,6 +1,6 @@
 -- What the functions of this crate promise each other and the crates above: what a header's place holds, how far a request has come between
 -- them, and where in it stands what it asks. No call of the box reaches it. Assumes nothing.
-use Rattle.std.specs.Prelude.{ℕ, ◌+◌, ◌≤◌, ◌%◌, ◌≡◌, Bool, true, false, cond, ◌||◌, ◌&&◌, List, [], ◌∷◌, ltb, eqb, length, get_or, Option, Some, None, MatchOption, is_some, option_map, unwrap_or}
+use Rattle.std.specs.Prelude.{ℕ, ◌+◌, ◌≤◌, ◌<◌, ◌%◌, ◌≡◌, Bool, true, false, cond, ◌||◌, ◌&&◌, List, [], ◌∷◌, ltb, eqb, length, get_or, Option, Some, None, MatchOption, is_some, option_map, unwrap_or}
 use Rattle.scan.specs.Lists.{part, first}
 use Rattle.scan.specs.Found.{Holds, nowhere}
 use Rattle.digits.specs.Reading.{read_hex8}
@@ -12,7 +12,7 @@ use Rattle.reader.specs.Fields.{session_from, session_of, transport_of}
 use Rattle.target.specs.Uri.{host_of, query_of}
 use Rattle.target.specs.Steps.{stream_given}
 use Rattle.aim.specs.Found.{query_span, start_in}
-use Rattle.reader.specs.Request.{cseq_of, method_of, uri_of, request_refusal}
+use Rattle.reader.specs.Request.{cseq_of, method_of, uri_of, is_twice, request_refusal}
 use Rattle.aim.specs.Aim.{method_number}
 use Rattle.aim.specs.Query.{parts_of, text_in, code_in}
 use Rattle.aim.specs.declared.Method.{Method}

@@ -2,13 +2,13 @@ use mathlib.Core.Path.{◌∙◌, ap}
 use Rattle.std.specs.Prelude.{is_some}
 use Rattle.std.proofs.lemmas.Result.{err_from_is_err_and}
 use Rattle.lines.specs.Laid.{first_seen}
-use Rattle.aim.proofs.AimLaws.{some_read}
-use Rattle.reader.proofs.RequestLaws.{begun, none_handed, head_plainly, request_unparted, request_twice, request_unversioned, request_required, request_headed}
+use Rattle.aim.proofs.AimLaws.{none_refused, some_read}
+use Rattle.reader.proofs.RequestLaws.{begun, head_plainly, request_unparted, request_twice, request_unversioned, request_required, request_headed}
 use Rattle.reader.proofs.read_line.Goals as goal
 
 pub returns-in_err-parts : goal.returns-in_err-parts
 returns-in_err-parts c = let p = err_from_is_err_and c.from_residual.result c.from_residual.ensures.1 in
-    let n = none_handed _ _ c.request_line.ensures c.in_err-parts.ensures.ok_part c.in_err-parts.ensures.value p.2 in
+    let n = none_refused _ _ c.request_line.ensures c.in_err-parts.ensures.ok_part c.in_err-parts.ensures.value p.2 in
     rw (p.1, n.1, c.refuse.ensures) (head_plainly _ c.requires.cseq (request_unparted _ (begun c.requires.lines c.requires.cseq) n.0) (λ e. cc))
 
 pub returns-then-are_twice : goal.returns-then-are_twice
