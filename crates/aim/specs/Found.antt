@@ -7,8 +7,8 @@ use Rattle.aim.specs.declared.query.Part.{Part}
 use Rattle.aim.specs.declared.query.Query.{Query}
 use Rattle.aim.specs.Query.{parts_of, attribute_in, are_parts, text_in, code_from, code_in}
 use Rattle.scan.specs.declared.Span.{Span}
-use Rattle.target.specs.Uri.{stream_named, host_of, has_query, query_of}
-use Rattle.target.specs.Steps.{question, UriIs}
+use Rattle.target.specs.Uri.{host_of, has_query, query_of}
+use Rattle.target.specs.Steps.{question, stream_given, UriIs}
 use Rattle.target.specs.declared.Uri.{Uri}
 use Rattle.refusals.specs.declared.Refusal.{Refusal}
 use Rattle.refusals.specs.declared.Refusal.TheVariants.{PidsClash, PidsUnstreamed, NoStream}
@@ -101,10 +101,6 @@ start_in a u = cond (has_query u) (start_of a (query_of u)) 0
 abbrev pub query_span : List ℕ → Option Span
 query_span u = then_some (has_query u) (record { start = question u + 1; end = length u })
 
--- and where it starts, 0 where there is none
-abbrev pub query_start : List ℕ → ℕ
-query_start u = cond (has_query u) (question u + 1) 0
-
 -- a URI of right length and form, whose query starts at a place if there is one
 pub record Reached (u : List ℕ) (t : Uri) (start : Option ℕ) : Type 0 where
   pub short : length u ≤ 1024
@@ -135,7 +131,7 @@ verdict_of method stream q =
 -- what a URI without a query asks, by what was read of it
 abbrev pub unasked : Method → Uri → Result Aim Refusal
 unasked method t =
-    cond (lacks_stream method (not (eqb t.stream 0)) false) (Err NoStream)
+    cond (lacks_stream method (is_some t.stream) false) (Err NoStream)
     (Ok (record { codes = replicate 13 0; spans = replicate 13 nowhere; stream = t.stream; host = t.host; query = None }))
 
 -- the first refusal that applies
@@ -145,7 +141,7 @@ Refuses frontends method u refusal = uri_refusal frontends method u ≡ Some ref
 -- what a URI that nothing refuses asks, and where that stands
 pub record AimIs (frontends : ℕ) (method : Method) (u : List ℕ) (r : Aim) : Type 0 where
   pub passes : uri_refusal frontends method u ≡ None
-  pub stream : Some r.stream ≡ stream_named u
+  pub stream : r.stream ≡ stream_given u
   pub host : Holds u (host_of u) r.host.start r.host.end
   pub query : IfSome r.query (λ q. Holds u (query_of u) q.start q.end)
   pub thirteen : (length r.codes ≡ 13) × (length r.spans ≡ 13)
@@ -153,4 +149,5 @@ pub record AimIs (frontends : ℕ) (method : Method) (u : List ℕ) (r : Aim) : 
   pub spans : (a : ℕ) → Holds (query_of u) (text_in a (parts_of u)) (get_or r.spans a nowhere).start (get_or r.spans a nowhere).end
   pub host_starts : r.host.start ≡ 7
   pub query_place : r.query ≡ query_span u
+  pub query_some : is_some r.query ≡ ltb 0 (length (query_of u))
   pub starts : (a : ℕ) → (get_or r.spans a nowhere).start ≡ start_in a u

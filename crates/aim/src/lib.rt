@@ -28,10 +28,10 @@ pub struct Aim {
     // Each attribute's code, 0 where it is not given: a number, since a stream's values are coded alike for C, and `stream::merge` promises
     // for any thirteen codes.
     pub codes: [u32; 13],
-    // Where each attribute's text stands in the query, 0 to 0 where it is not given: an array of options takes 104 bytes of stack more.
+    // Where each attribute's text stands in the query, 0 to 0 where it is not given: an array of options is 104 bytes larger.
     pub spans: [Span; 13],
-    // The stream named, 1 to 65535, or 0.
-    pub stream: u32,
+    // The stream named, 1 to 65535.
+    pub stream: Option<u32>,
     pub host: Span,
     pub query: Option<Span>,
 }
@@ -67,7 +67,7 @@ fn is_span(s: Span) -> bool
 fn unasked(method: Method, uri: Uri) -> Result<Aim, Refusal>
     ensures { result ≡ unasked method uri }
 {
-    if lacks_stream(method, uri.stream != 0, false) {
+    if lacks_stream(method, uri.stream.is_some(), false) {
         return Err(Refusal::NoStream);
     }
     Ok(Aim {
@@ -108,8 +108,10 @@ fn asked(method: Method, u: &[u8], uri: Uri, start: usize, frontends: u8) -> Res
     if takes_no_query(method) {
         return Err(Refusal::QueryUntaken);
     }
-    let q = query::read_query(&u[start..], frontends).ok_or(Refusal::QueryForm)?;
-    verdict(method, uri.stream != 0, &q)?;
+    let Some(q) = query::read_query(&u[start..], frontends) else {
+        return Err(Refusal::QueryForm);
+    };
+    verdict(method, uri.stream.is_some(), &q)?;
     Ok(Aim {
         codes: q.codes,
         spans: q.spans,

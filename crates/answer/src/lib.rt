@@ -15,7 +15,7 @@ use status::put_status;
 use writing::Writer;
 
 // What an answer carries after its CSeq.
-#[derive(Clone, Copy)]
+#[derive(Clone, Copy, PartialEq, Eq, Debug)]
 pub enum Kind {
     Bare,
     Allow,
@@ -29,7 +29,7 @@ pub enum Kind {
 
 // An answer: its kind says which of its fields are written. `session` is 0 where none is named; `cseq` is where in the request CSeq's digits stand,
 // and `text` where the host or the Require value does.
-#[derive(Clone, Copy)]
+#[derive(Clone, Copy, PartialEq, Eq, Debug)]
 pub struct Answer {
     pub kind: Kind,
     pub status: u32,

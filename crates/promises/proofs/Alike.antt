@@ -23,17 +23,14 @@ use Rattle.target.specs.Uri.{is_uri}
 use Rattle.target.specs.Steps.{PartsAre, UriIs}
 use Rattle.target.specs.declared.Parts.{Parts}
 use Rattle.target.specs.declared.Uri.{Uri}
-use Rattle.aim.specs.Query.{code_from}
 use Rattle.aim.specs.Found.{AimIs, Refuses}
-use Rattle.refusals.specs.Refusals.{is_read, reading_rule}
 use Rattle.aim.specs.declared.Aim.{Aim}
 use Rattle.aim.specs.declared.Method.{Method as Methods}
 use Rattle.refusals.specs.declared.Refusal.{Refusal}
-use Rattle.refusals.specs.declared.Refusal.TheVariants.{Layout, CSeq, RequestLine, HeaderTwice, Version, Require, Method, UriLong, UriForm, QueryUntaken, QueryForm, PidsClash, PidsUnstreamed, Value, NoStream}
-use Rattle.reader.specs.Request.{head_refusal}
-use Rattle.reader.specs.Heads.{RequestIs}
-use Rattle.reader.specs.declared.Request.{Request}
-use Rattle.reader.proofs.RequestLaws.{passed_is}
+use Rattle.refusals.specs.declared.Refusal.TheVariants.{Require}
+use Rattle.reader.specs.Heads.{CseqIs, RequireIs, AskedIs, RefusedIs}
+use Rattle.reader.specs.declared.Asked.{Asked}
+use Rattle.reader.specs.declared.Refused.{Refused}
 
 -- two spans that hold the same text and start at the same place
 span_same : {s t : List ℕ} {x y : Span} → x.start ≡ y.start → Holds s t x.start x.end → Holds s t y.start y.end → x ≡ y
@@ -97,7 +94,7 @@ uri_same u x y = option_same (UriIs u) x y (λ a p n. never p.form n) both
     both : (a b : Uri) → UriIs u a → UriIs u b → a ≡ b
     both a b p q =
         let d : a.query ≡ b.query = p.place ∙ sym q.place in
-        let e : a.stream ≡ b.stream = ap code_from (p.stream ∙ sym q.stream) in
+        let e : a.stream ≡ b.stream = p.stream ∙ sym q.stream in
         let f : a.host ≡ b.host = span_same (p.starts ∙ sym q.starts) p.host q.host in
         λ i. record { query = d i; stream = e i; host = f i }
 
@@ -110,7 +107,7 @@ module _ (frontends : ℕ) (m : Methods) (u : List ℕ) where
   both_aims a b p q =
       let c : a.codes ≡ b.codes = ext_get_or 0 a.codes b.codes (p.thirteen.0 ∙ sym q.thirteen.0) (λ k _. p.codes k ∙ sym (q.codes k)) in
       let d : a.spans ≡ b.spans = ext_get_or nowhere a.spans b.spans (p.thirteen.1 ∙ sym q.thirteen.1) (λ k _. span_same (p.starts k ∙ sym (q.starts k)) (p.spans k) (q.spans k)) in
-      let e : a.stream ≡ b.stream = ap code_from (p.stream ∙ sym q.stream) in
+      let e : a.stream ≡ b.stream = p.stream ∙ sym q.stream in
       let f : a.host ≡ b.host = span_same (p.host_starts ∙ sym q.host_starts) p.host q.host in
       let g : a.query ≡ b.query = p.query_place ∙ sym q.query_place in
       λ i. record { codes = c i; spans = d i; stream = e i; host = f i; query = g i }
@@ -121,83 +118,51 @@ module _ (frontends : ℕ) (m : Methods) (u : List ℕ) where
   aim_same (Err e) (Ok b) p q = absurd (passes_only q p)
   aim_same (Err e) (Err f) p q = let z : Some e ≡ Some f = sym p ∙ q in cc
 
--- A REQUEST; its arrays are as long
--- whether it is refused by a case of step 5
-abbrev is_fifth : Option Refusal → Bool
-is_fifth None = false
-is_fifth (Some x) = eqb (reading_rule x).0 5
+-- A REQUEST
+-- the place of the digits of CSeq, and of a Require value, which step 5 alone hands out
+cseq_same : (s : List ℕ) {a b : Span} → CseqIs s a → CseqIs s b → a ≡ b
+cseq_same s p q = span_same (p.starts ∙ sym q.starts) p.held q.held
 
--- which is one alone
-required : (r : Option Refusal) → is_fifth r ≡ true → r ≡ Some Require
-required None e = never e refl
-required (Some x) e = by x e
-  where
-    by : (x : Refusal) → eqb (reading_rule x).0 5 ≡ true → Some x ≡ Some Require
-    by Require e = refl
-    by Layout e = never e refl
-    by CSeq e = never e refl
-    by RequestLine e = never e refl
-    by HeaderTwice e = never e refl
-    by Version e = never e refl
-    by Method e = never e refl
-    by UriLong e = never e refl
-    by UriForm e = never e refl
-    by QueryUntaken e = never e refl
-    by QueryForm e = never e refl
-    by PidsClash e = never e refl
-    by PidsUnstreamed e = never e refl
-    by Value e = never e refl
-    by NoStream e = never e refl
+require_same : (s : List ℕ) (refusal : Refusal) (a b : Option Span) → MatchOption a (refusal ≡ Require → ⊥) (RequireIs s refusal) → MatchOption b (refusal ≡ Require → ⊥) (RequireIs s refusal) → a ≡ b
+require_same s refusal a b = option_same (RequireIs s refusal) a b (λ v p n. n p.is) (λ v w p q. span_same (p.starts ∙ sym q.starts) p.held q.held)
 
-module _ (frontends : ℕ) (s : List ℕ) (x y : Request) (p : RequestIs frontends s x) (q : RequestIs frontends s y)
-    (n : length x.codes ≡ length y.codes) (o : length x.spans ≡ length y.spans) where
-  same_require : x.require ≡ y.require
-  same_require = by (case (is_fifth (head_refusal s)))
-    where
-      by : Case (is_fifth (head_refusal s)) → x.require ≡ y.require
-      by (is t) =
-          let e = required (head_refusal s) t in
-          span_same (p.require_starts e ∙ sym (q.require_starts e)) (p.require e) (q.require e)
-      by (isnt z) =
-          let d : head_refusal s ≡ Some Require → ⊥ = λ e. never (ap is_fifth e) z in
-          p.unrequired d ∙ sym (q.unrequired d)
+module _ (frontends : ℕ) (s : List ℕ) where
+  both_asked : (a b : Asked) → AskedIs frontends s a → AskedIs frontends s b → a ≡ b
+  both_asked a b p q =
+      let c : a.codes ≡ b.codes = ext_get_or 0 a.codes b.codes (p.thirteen.0 ∙ sym q.thirteen.0) (λ k _. p.codes k ∙ sym (q.codes k)) in
+      let d : a.spans ≡ b.spans = ext_get_or nowhere a.spans b.spans (p.thirteen.1 ∙ sym q.thirteen.1) (λ k _. span_same (p.starts k ∙ sym (q.starts k)) (p.spans k) (q.spans k)) in
+      let e : a.cseq ≡ b.cseq = cseq_same s p.cseq q.cseq in
+      let f : a.method ≡ b.method = p.method ∙ sym q.method in
+      let g : a.stream ≡ b.stream = p.stream ∙ sym q.stream in
+      let h : a.host ≡ b.host = span_same (p.host_starts ∙ sym q.host_starts) p.host q.host in
+      let j : a.query ≡ b.query = p.query ∙ sym q.query in
+      let k : a.session ≡ b.session = p.session ∙ sym q.session in
+      let l : a.transport ≡ b.transport = p.transport ∙ sym q.transport in
+      λ i. record {
+        codes = c i;
+        spans = d i;
+        cseq = e i;
+        method = f i;
+        stream = g i;
+        host = h i;
+        query = j i;
+        session = k i;
+        transport = l i;
+      }
 
-  pub request_same : x ≡ y
-  request_same = by (case (is_read x.refusal))
-    where
-      refusals : x.refusal ≡ y.refusal
-      refusals = p.refusal ∙ sym q.refusal
+  both_refused : (a b : Refused) → RefusedIs frontends s a → RefusedIs frontends s b → a ≡ b
+  both_refused a b p q =
+      let w : Some a.refusal ≡ Some b.refusal = sym p.refusal ∙ q.refusal in
+      let c : a.refusal ≡ b.refusal = cc in
+      let d : a.cseq ≡ b.cseq = option_same (CseqIs s) a.cseq b.cseq (λ v i n. never n i.some) (λ v w i j. cseq_same s i j) p.cseq q.cseq in
+      let e : a.require ≡ b.require = require_same s b.refusal a.require b.require (rw c at p.require) q.require in
+      λ i. record { refusal = c i; cseq = d i; require = e i }
 
-      cseqs : x.cseq ≡ y.cseq
-      cseqs = p.cseq.is ∙ sym q.cseq.is
+  asked_only : {a : Asked} {b : Refused} → AskedIs frontends s a → RefusedIs frontends s b → ⊥
+  asked_only p q = let z : None ≡ Some _ = sym p.passes ∙ q.refusal in cc
 
-      by : Case (is_read x.refusal) → x ≡ y
-      by (is t) =
-          let e : x.refusal ≡ None = passed_is x.refusal t in
-          let f : y.refusal ≡ None = sym refusals ∙ e in
-          let a : x.codes ≡ y.codes = ext_get_or 0 x.codes y.codes n (λ k _. p.codes e k ∙ sym (q.codes f k)) in
-          let b : x.spans ≡ y.spans = ext_get_or nowhere x.spans y.spans o (λ k _. span_same (p.starts e k ∙ sym (q.starts f k)) (p.spans e k) (q.spans f k)) in
-          let c : x.method ≡ y.method = p.method e ∙ sym (q.method f) in
-          let d : x.stream ≡ y.stream = ap code_from (p.stream e ∙ sym (q.stream f)) in
-          let g : x.host ≡ y.host = span_same (p.host_starts e ∙ sym (q.host_starts f)) (p.host e) (q.host f) in
-          let h : x.query ≡ y.query = span_same (p.query_starts e ∙ sym (q.query_starts f)) (p.query e) (q.query f) in
-          let j : x.session ≡ y.session = p.session e ∙ sym (q.session f) in
-          let k : x.transport ≡ y.transport = p.transport e ∙ sym (q.transport f) in
-          λ i. record {
-            codes = a i;
-            spans = b i;
-            refusal = refusals i;
-            cseq = cseqs i;
-            method = c i;
-            stream = d i;
-            host = g i;
-            query = h i;
-            require = same_require i;
-            session = j i;
-            transport = k i;
-          }
-      by (isnt z) = refused x.refusal refl z
-        where
-          refused : (r : Option Refusal) → x.refusal ≡ r → is_read r ≡ false → x ≡ y
-          refused None e n = never refl n
-          refused (Some k) e n = p.refused k e ∙ rw (cseqs, same_require) (sym (q.refused k (sym refusals ∙ e)))
+  pub request_same : (x y : Result Asked Refused) → MatchResult x (AskedIs frontends s) (RefusedIs frontends s) → MatchResult y (AskedIs frontends s) (RefusedIs frontends s) → x ≡ y
+  request_same (Ok a) (Ok b) p q = ap Ok (both_asked a b p q)
+  request_same (Ok a) (Err b) p q = absurd (asked_only p q)
+  request_same (Err a) (Ok b) p q = absurd (asked_only q p)
+  request_same (Err a) (Err b) p q = ap Err (both_refused a b p q)

@@ -3,11 +3,7 @@
 use mathlib.Core.Path.{◌≡◌, refl, sym, ◌∙◌}
 use mathlib.Core.List.{List}
 use Prim.Native.Nat.{ℕ}
-use lib.ListN.{length}
-use mir.Val.{Val}
 use contract.Lifetimes.{Lfts}
-use denote.Laws.{Is}
-use denote.Signature.{type_at}
 use denote.Triple.Entry.{Args, Res}
 use denote.Triple.Clauses.{Ended, AtExit, Lasts, at_exit}
 use Rattle.scan.proofs as scan
@@ -40,7 +36,6 @@ use Rattle.finding.proofs as finding
 use Rattle.finding.specs.contracts as finding_contracts
 use Rattle.formed.proofs as formed
 use Rattle.formed.specs.contracts as formed_contracts
-use Rattle.table.proofs.Places.{known}
 use Rattle.answer.proofs as answer
 use Rattle.answer.specs.contracts as answer_contracts
 use Rattle.steps.proofs as steps
@@ -63,13 +58,6 @@ Contract T = (κs : Lfts T.signature.lifetimes) → Args T.signature κs → Res
 abbrev pub Unique : (T : Ended) → Contract T → Type 0
 Unique T Allows =
     (κs : Lfts T.signature.lifetimes) (a : Args T.signature κs) (x y : Res T.signature κs) (v w : Lasts T κs a)
-    → Allows κs a x (at_exit T κs a v) → Allows κs a y (at_exit T κs a w) → (x ≡ y) × (v ≡ w)
-
--- the same of results that a machine can hold: the machine values m and n say that each is of its type, and so how long its arrays are
-abbrev pub UniqueHeld : (T : Ended) → Contract T → Type 0
-UniqueHeld T Allows =
-    (κs : Lfts T.signature.lifetimes) (a : Args T.signature κs) (x y : Res T.signature κs) (v w : Lasts T κs a) (m n : List Val)
-    → Is (type_at T.signature.result κs) x m → Is (type_at T.signature.result κs) y n
     → Allows κs a x (at_exit T κs a v) → Allows κs a y (at_exit T κs a w) → (x ≡ y) × (v ≡ w)
 
 -- what two equations say, alone and of a function that is lent no buffer; and what two puts into the first buffer say
@@ -186,13 +174,8 @@ pub aim_read_aim : Unique aim_contracts.read_aim.ended aim.read_aim.Reads.Post
 aim_read_aim κs a x y v w p q = (aim_same a.1.1.0 a.0 a.1.0.now x y p q, refl)
 
 -- READER
-pub reader_read : UniqueHeld reader_contracts.read.ended reader.read.Reads.Post
-reader_read κs a x y v w m n i j p q =
-    let e : length x.codes ≡ 13 = search (known, i) in
-    let f : length y.codes ≡ 13 = search (known, j) in
-    let g : length x.spans ≡ 13 = search (known, i) in
-    let h : length y.spans ≡ 13 = search (known, j) in
-    (request_same a.1.0 a.0.now x y p q (e ∙ sym f) (g ∙ sym h), refl)
+pub reader_read : Unique reader_contracts.read.ended reader.read.Reads.Post
+reader_read κs a x y v w p q = (request_same a.1.0 a.0.now x y p q, refl)
 
 -- STREAM
 pub stream_blank : Unique stream_contracts.Stream.blank.ended stream.Stream.blank.Reads.Post
@@ -285,6 +268,9 @@ steps_case_of κs a x y v w = same
 
 pub steps_answer_to : Unique steps_contracts.answer_to.ended steps.answer_to.Reads.Post
 steps_answer_to κs a x y v w = same
+
+pub steps_answer_to_refused : Unique steps_contracts.answer_to_refused.ended steps.answer_to_refused.Reads.Post
+steps_answer_to_refused κs a x y v w = same
 
 -- ORDERS
 pub orders_frontend_order : Unique orders_contracts.frontend_order.ended orders.frontend_order.Reads.Post

@@ -1,6 +1,6 @@
 -- A request's refusal: which of the tests of steps 1 to 6 applies first, and then its URI's. Assumes nothing.
 use mathlib.Core.Path.{◌≡◌, refl, ap, ◌∙◌, sym}
-use mathlib.Core.Bool.{Bool, true, false, cond}
+use mathlib.Core.Bool.{Bool, true, false, cond, ◌||◌}
 use mathlib.Core.List.{List, []}
 use Prim.Native.Nat.{ℕ, zero, suc, ◌+◌, ◌-◌, ◌≤◌, ◌<◌, min}
 use native.Mathlib.Omega.{arith}
@@ -20,8 +20,10 @@ use Rattle.digits.specs.Standing.{Stands, digits_at}
 use Rattle.digits.proofs.Limits.{are_digits_law}
 use Rattle.lines.specs.Lines.{is_laid_out, request_line, header_lines}
 use Rattle.lines.specs.Headers.{values_of}
-use Rattle.lines.specs.Laid.{first_value, times_of, place_of, first_seen, unseen, SeenIs, value_start, LinesAre}
-use Rattle.std.specs.Prelude.{Some, None, Option, MatchOption, is_some, unwrap_or}
+use Rattle.lines.specs.Laid.{first_value, times_of, first_seen, place_of, unseen, SeenIs, LinesAre, value_start}
+use Rattle.std.specs.Prelude.{Some, None, Option, MatchOption, is_some, unwrap_or, option_map, Result, Err}
+use Rattle.std.specs.Option.{ok_or}
+use Rattle.std.specs.Bool.{then_some}
 use Rattle.lines.specs.declared.Seen.{Seen}
 use Rattle.lines.specs.declared.Seen.TheVariants.{Never, Once, Again}
 use Rattle.lines.specs.declared.Lines.{Lines}
@@ -29,18 +31,17 @@ use Rattle.target.specs.Line.{is_three, line_part}
 use Rattle.target.specs.Steps.{PartsAre}
 use Rattle.target.specs.declared.Parts.{Parts}
 use Rattle.reader.specs.Fields.{session_of, transport_of}
-use Rattle.reader.specs.Heads.{CseqSeen, cseq_place, CseqIs, StandsIn, session_in, head_text, session_seen, are_twice, Begun, Headed, Passing, uri_start, refused_request, RequestIs, is_other, is_version, method_in, are_repeated}
+use Rattle.reader.specs.Heads.{CseqSeen, CseqIs, StandsIn, session_in, head_text, session_seen, are_twice, uri_start, IsMethod, AskedIs, RefusedIs, RequireIs, is_version, are_repeated, Begun, Headed, behind, refused_by, is_other, method_in}
 use Rattle.aim.specs.Aim.{uri_refusal}
 use Rattle.aim.specs.Found.{AimIs, Refuses}
 use Rattle.aim.proofs.AimLaws.{queried}
-use Rattle.refusals.specs.Refusals.{is_read, reading_rule}
-use Rattle.reader.specs.Request.{cseq_most, cseq_limit, cseq_of, method_of, uri_of, head_refusal, request_refusal}
+use Rattle.refusals.specs.Refusals.{is_read}
+use Rattle.reader.specs.Request.{cseq_most, cseq_limit, cseq_of, is_twice, method_of, uri_of, head_refusal, request_refusal}
 use Rattle.refusals.specs.declared.Refusal.{Refusal}
-use Rattle.refusals.specs.declared.Refusal.TheVariants.{Layout, CSeq, RequestLine, HeaderTwice, Version, Require}
-use Rattle.refusals.specs.declared.Refusal.TheVariants.{Method as OtherMethod}
+use Rattle.refusals.specs.declared.Refusal.TheVariants.{Layout, CSeq, RequestLine, HeaderTwice, Version, Require, UriLong, UriForm, QueryUntaken, QueryForm, PidsClash, PidsUnstreamed, NoStream}
+use Rattle.refusals.specs.declared.Refusal.TheVariants.{Method as OtherMethod, Value as Outside}
 use Rattle.aim.specs.declared.Method.{Method}
 use Rattle.aim.specs.declared.Aim.{Aim}
-use Rattle.reader.specs.declared.Request.{Request}
 use Rattle.reader.specs.declared.fields.Session.{Session}
 use Rattle.reader.specs.declared.fields.Session.TheVariants.{Absent}
 
@@ -70,16 +71,18 @@ module _ {s : List ℕ} {vs : List (List ℕ)} {seen : Seen} (i : SeenIs s vs se
   pub seen_sent : ltb 0 (times_of seen) ≡ ltb 0 (length vs)
   seen_sent = rw i.times (capped (λ k n. ltb 0 k ≡ ltb 0 n) (length vs) refl refl (λ m h. rw (lt-ltb 0 m (omega arith))))
 
--- where the first value stands, if a header was sent
-first_there : (seen : Seen) {place : Span} → first_seen seen ≡ Some place → (ltb 0 (times_of seen) ≡ true) × (place_of seen ≡ place)
-first_there Never e = cc
-first_there (Once v) e = (refl, cc)
-first_there (Again v) e = (refl, cc)
+-- a header was sent if a first value stands there
+first_there : (seen : Seen) → is_some (first_seen seen) ≡ ltb 0 (times_of seen)
+first_there Never = refl
+first_there (Once v) = refl
+first_there (Again v) = refl
 
-first_none : (seen : Seen) → first_seen seen ≡ None → ltb 0 (times_of seen) ≡ false
-first_none Never e = refl
-first_none (Once v) e = cc
-first_none (Again v) e = cc
+-- and its value stands there
+required_is : {s : List ℕ} (seen : Seen) → SeenIs s (values_of 3 (header_lines s)) seen → (place_of seen).start ≡ value_start 3 s → is_some (first_seen seen) ≡ true
+    → MatchOption (first_seen seen) (Require ≡ Require → ⊥) (RequireIs s Require)
+required_is Never i h y = never refl (sym y)
+required_is (Once v) i h y = record { is = refl; held = i.value; starts = h }
+required_is (Again v) i h y = record { is = refl; held = i.value; starts = h }
 
 pub first_session : (s : List ℕ) (seen : Seen) → first_seen seen ≡ None → Absent ≡ session_seen s seen
 first_session s Never e = refl
@@ -93,28 +96,16 @@ first_transport s (Once v) e = cc
 first_transport s (Again v) e = cc
 
 -- CSEQ
--- where there is none
-cseq_none : (s : List ℕ) → cseq_of s ≡ [] → CseqIs s nowhere
-cseq_none s e = record { is = rw e; held = rw e (holds_nothing s) }
-
--- it is there exactly if its place has a byte
-module _ {s : List ℕ} {c : Span} (i : CseqIs s c) where
-  pub cseq_empty : c.end ≤ c.start → is_empty (cseq_of s) ≡ true
-  cseq_empty h = no_text (cseq_of s) (omega (arith, holds_length i.held))
-
-  pub cseq_some : c.start < c.end → is_empty (cseq_of s) ≡ false
-  cseq_some h = some_text (cseq_of s) (omega (arith, holds_length i.held))
-
 module _ {s : List ℕ} {seen : Seen} (q : CseqSeen s seen) where
   abbrev sent : List (List ℕ)
   sent = values_of 0 (header_lines s)
 
-  cseq_not_once : (times_of seen ≡ 1 → ⊥) → CseqIs s nowhere
+  cseq_not_once : (times_of seen ≡ 1 → ⊥) → is_empty (cseq_of s) ≡ true
   unfolding cseq_of
-  cseq_not_once n = cseq_none s (rw (q.whole, ne_eqb (length sent) 1 (λ e. n (q.values.times ∙ ap (λ k. min k 2) e))))
+  cseq_not_once n = rw (q.whole, ne_eqb (length sent) 1 (λ e. n (q.values.times ∙ ap (λ k. min k 2) e)))
 
 -- not sent once
-pub cseq_other : {s : List ℕ} (seen : Seen) → CseqSeen s seen → ((place : Span) → seen ≡ Once place → ⊥) → CseqIs s nowhere
+pub cseq_other : {s : List ℕ} (seen : Seen) → CseqSeen s seen → ((place : Span) → seen ≡ Once place → ⊥) → is_empty (cseq_of s) ≡ true
 cseq_other Never q n = cseq_not_once q (λ e. let z : ◌≡◌ {A = ℕ} 0 1 = e in omega arith)
 cseq_other (Once place) q n = absurd (n place refl)
 cseq_other (Again place) q n = cseq_not_once q (λ e. let z : ◌≡◌ {A = ℕ} 2 1 = e in omega arith)
@@ -136,111 +127,68 @@ module _ {s : List ℕ} {seen : Seen} {place : Span} (o : seen ≡ Once place) (
   value_is = text_held s value place q.values.value
 
   -- the digits stand where the value stands, if it is a number
-  here : Test (is_some (read_in 10 cseq_most cseq_limit value)) → unwrap_or (digits_at 10 cseq_most cseq_limit s place) nowhere ≡ cseq_place s
-  here (is y) =
-      let v = value in
-      let e : cseq_of s ≡ v = cseq_is ∙ rw y in
-      let n : is_empty v ≡ false = some_text v (are_digits_law 10 cseq_most cseq_limit v y).some in
-      rw (value_is, y, e, n, ← q.starts, ← holds_length q.values.value)
-  here (isnt n) = let e : cseq_of s ≡ [] = cseq_is ∙ rw n in rw (value_is, n, e)
+  here : (t : Bool) → is_some (read_in 10 cseq_most cseq_limit value) ≡ t → {r : Option Span} → r ≡ then_some t place → MatchOption r (is_empty (cseq_of s) ≡ true) (CseqIs s)
+  here true y e =
+      rw e (record { some = rw (cseq_is, y) (some_text value (are_digits_law 10 cseq_most cseq_limit value y).some); starts = q.starts; held = rw (cseq_is, y) q.values.value })
+  here false n e = rw e (rw (cseq_is, n))
 
-  pub cseq_once : {r : Option Span} {p : Span} → Stands 10 cseq_most cseq_limit s place r → p ≡ unwrap_or r nowhere → CseqIs s p
-  cseq_once {r} w e =
-      rw e
-      (record {
-        is = ap (λ x. unwrap_or x nowhere) w.is ∙ here (case (is_some (read_in 10 cseq_most cseq_limit value)));
-        held = rw (cseq_is, ← value_is) (held r w.holds);
-      })
-    where
-      held : (x : Option Span) → MatchOption x (digits_read 10 cseq_most cseq_limit (text_at s place) ≡ []) (λ at. Holds s (digits_read 10 cseq_most cseq_limit (text_at s place)) at.start at.end)
-          → Holds s (digits_read 10 cseq_most cseq_limit (text_at s place)) (unwrap_or x nowhere).start (unwrap_or x nowhere).end
-      held None e = rw e (holds_nothing s)
-      held (Some at) h = h
+  pub cseq_once : {r : Option Span} → Stands 10 cseq_most cseq_limit s place r → MatchOption r (is_empty (cseq_of s) ≡ true) (CseqIs s)
+  cseq_once w = here (is_some (read_in 10 cseq_most cseq_limit value)) refl (w.is ∙ ap (λ v. then_some (is_some (read_in 10 cseq_most cseq_limit v)) place) value_is)
+
+mapped_some : {A B : Type 0} (f : A → B) (o : Option A) → is_some (option_map f o) ≡ is_some o
+mapped_some f (Some x) = refl
+mapped_some f None = refl
+
+-- HOW FAR IT HAS COME
+pub begun : {s : List ℕ} {l : Lines} {c : Span} → LinesAre s l → CseqIs s c → Begun s l c
+begun l i = record { lines = l; cseq_is = i }
 
 -- REFUSED REQUESTS
-pub request_refused : {frontends : ℕ} {s : List ℕ} {r : Request} {x : Refusal} {c v : Span}
-    → (head_refusal s ≡ Some Require → Holds s (first_value (values_of 3 (header_lines s))) v.start v.end × (v.start ≡ value_start 3 s))
-    → ((head_refusal s ≡ Some Require → ⊥) → v ≡ nowhere) → Some x ≡ request_refusal frontends s → CseqIs s c
-    → r ≡ refused_request x c v → RequestIs frontends s r
-request_refused {x = x} k u e d q =
-    rw q
-    (record {
-      refusal = e;
-      cseq = d;
-      require = λ y. (k y).0;
-      require_starts = λ y. (k y).1;
-      unrequired = u;
-      method = λ y. cc;
-      stream = λ y. cc;
-      host = λ y. cc;
-      query = λ y. cc;
-      codes = λ y. cc;
-      spans = λ y. cc;
-      host_starts = λ y. cc;
-      query_starts = λ y. cc;
-      starts = λ y. cc;
-      session = λ y. cc;
-      transport = λ y. cc;
-      refused = λ z y. let o : x ≡ z = cc in rw (← o);
-    })
-
--- by one of steps 1 to 6, and not by the fifth, which also hands out a value
-pub head_refused : {frontends : ℕ} {s : List ℕ} {r : Request} {x : Refusal} {c : Span} → head_refusal s ≡ Some x → ((reading_rule x).0 ≡ 5 → ⊥) → CseqIs s c → r ≡ refused_request x c nowhere → RequestIs frontends s r
+-- by one of steps 1 to 6
+pub head_refused : (frontends : ℕ) (s : List ℕ) {x : Refusal} → head_refusal s ≡ Some x → request_refusal frontends s ≡ Some x
 unfolding request_refusal
-head_refused {x = x} h k d q = request_refused (λ z. let o : x ≡ Require = cc in absurd (k (ap (λ r. (reading_rule r).0) o))) (λ _. refl) (rw h) d q
+head_refused frontends s h = rw h
 
-pub request_broken : (s : List ℕ) → is_laid_out s ≡ false → (head_refusal s ≡ Some Layout) × CseqIs s nowhere
+-- what holds of two holds of the first that applies
+pub gives_keeps : {A : Type 0} (P : A → Type 0) (b : Bool) (x y : A) → P x → P y → P (b gives x or y)
+gives_keeps P true x y p q = p
+gives_keeps P false x y p q = q
+
+-- a URI is not refused for a Require header
+abbrev IsOther : Option Refusal → Type 0
+IsOther o = o ≡ Some Require → ⊥
+
+uri_unrequired : (frontends : ℕ) (method : Method) (u : List ℕ) → IsOther (uri_refusal frontends method u)
+unfolding uri_refusal
+uri_unrequired frontends method u =
+    gives_keeps IsOther _ (Some UriLong) _ (λ e. cc)
+    (gives_keeps IsOther _ (Some UriForm) _ (λ e. cc)
+    (gives_keeps IsOther _ (Some QueryUntaken) _ (λ e. cc)
+    (gives_keeps IsOther _ (Some QueryForm) _ (λ e. cc)
+    (gives_keeps IsOther _ (Some PidsClash) _ (λ e. cc)
+    (gives_keeps IsOther _ (Some PidsUnstreamed) _ (λ e. cc)
+    (gives_keeps IsOther _ (Some Outside) _ (λ e. cc)
+    (gives_keeps IsOther _ (Some NoStream) None (λ e. cc) (λ e. cc))))))))
+
+-- by a step that repeats no Require value
+plainly : {frontends : ℕ} {s : List ℕ} {x : Refusal} {c : Option Span} → request_refusal frontends s ≡ Some x → (x ≡ Require → ⊥) → MatchOption c (is_empty (cseq_of s) ≡ true) (CseqIs s)
+    → RefusedIs frontends s (refused_by x c)
+plainly r n i = record { refusal = r; cseq = i; require = n }
+
+pub head_plainly : (frontends : ℕ) {s : List ℕ} {x : Refusal} {c : Span} → CseqIs s c → head_refusal s ≡ Some x → (x ≡ Require → ⊥) → RefusedIs frontends s (refused_by x (Some c))
+head_plainly frontends i h n = plainly (head_refused frontends _ h) n i
+
+pub request_unlaid : (frontends : ℕ) (s : List ℕ) → is_laid_out s ≡ false → RefusedIs frontends s (refused_by Layout None)
 unfolding head_refusal cseq_of
-request_broken s b = (rw b, cseq_none s (rw b))
+request_unlaid frontends s b = plainly (head_refused frontends s (rw b)) (λ e. cc) (rw b)
 
 module _ (s : List ℕ) {l : Lines} (i : LinesAre s l) where
   pub cseq_seen : CseqSeen s (get_or l.headers 0 unseen)
   cseq_seen = record { whole = i.whole; values = i.headers 0 (omega arith); starts = i.starts 0 (omega arith) }
 
-  pub request_uncounted : is_empty (cseq_of s) ≡ true → head_refusal s ≡ Some CSeq
+  pub request_uncounted : (frontends : ℕ) → is_empty (cseq_of s) ≡ true → RefusedIs frontends s (refused_by CSeq None)
   unfolding head_refusal
-  request_uncounted n = rw (i.whole, n)
-
--- WHAT A REQUEST ASKS
-pub request_passed : {frontends : ℕ} {s : List ℕ} {l : Lines} {c : Span} {m : Method} {from : ℕ} {a : Aim} {x : Session} {y : Option ℕ} {v : Span} → Passing frontends s l c m from a
-    → x ≡ session_seen s (get_or l.headers 1 unseen) → y ≡ transport_of (head_text s (get_or l.headers 2 unseen)) → v ≡ nowhere
-    → RequestIs frontends s (record {
-      codes = a.codes;
-      spans = a.spans;
-      refusal = None;
-      cseq = c;
-      method = m;
-      stream = a.stream;
-      host = record { start = from + a.host.start; end = from + a.host.end };
-      query = record { start = from + (unwrap_or a.query nowhere).start; end = from + (unwrap_or a.query nowhere).end };
-      require = v;
-      session = x;
-      transport = y;
-    })
-unfolding request_refusal
-request_passed {s = s} {a = a} p e q u =
-    record {
-      refusal = sym p.passes;
-      cseq = p.cseq_is;
-      require = λ z. absurd (not_required z);
-      require_starts = λ z. absurd (not_required z);
-      unrequired = λ _. u;
-      method = λ _. p.method_is;
-      stream = λ _. p.stream;
-      host = λ _. p.host;
-      query = λ _. p.query;
-      codes = λ _. p.codes;
-      spans = λ _. p.spans;
-      host_starts = λ _. rw (p.from_is, p.host_starts);
-      query_starts = λ _. rw (p.from_is, p.query_starts);
-      starts = λ _. p.starts;
-      session = λ _. e ∙ seen_session p.session;
-      transport = λ _. q ∙ ap transport_of (seen_text p.transport);
-      refused = λ z n. cc;
-    }
-  where
-    not_required : head_refusal s ≡ Some Require → ⊥
-    not_required z = let w : is_read (request_refusal _ s) ≡ false = rw z in never (ap is_read p.passes) w
+  request_uncounted frontends n = plainly (head_refused frontends s (rw (i.whole, n))) (λ e. cc) n
 
 -- what was read is not refused
 pub passed_is : (x : Option Refusal) → is_read x ≡ true → x ≡ None
@@ -271,33 +219,30 @@ module _ (frontends : ℕ) (s : List ℕ) {l : Lines} {c : Span} {p : Parts} (h 
   head_is =
       rw (
         h.begun.lines.whole,
-        h.begun.some,
+        h.begun.cseq_is.some,
         ap is_three line_is ∙ h.parts_are.three,
         h.once,
         h.version,
         h.free,
       )
 
-  pub request_unmethoded : {m : Method} → m ≡ method_of s → {t : Bool} → t ≡ is_other m → t ≡ true → head_refusal s ≡ Some OtherMethod
-  request_unmethoded e q y = let o : is_other (method_of s) ≡ true = ap is_other (sym e) ∙ sym q ∙ y in rw (head_is, o)
+  pub request_unmethoded : is_other (method_in (part 0 p.first (part 0 l.line s))) ≡ true → head_refusal s ≡ Some OtherMethod
+  request_unmethoded y = let o : is_other (method_of s) ≡ true = rw (method_read refl) at y in rw (head_is, o)
 
-  module _ {m : Method} (e : m ≡ method_of s) {t : Bool} (q : t ≡ is_other m) (n : t ≡ false) where
+  module _ {m : Method} (w : IsMethod (part 0 p.first (part 0 l.line s)) m) where
+    e : m ≡ method_of s
+    e = method_read w.is
+
     passes : head_refusal s ≡ None
-    passes = let o : is_other (method_of s) ≡ false = ap is_other (sym e) ∙ sym q ∙ n in head_is ∙ rw o
+    passes = let o : is_other (method_of s) ≡ false = rw e at w.named in head_is ∙ rw o
 
     uri_aimed : uri_refusal frontends m (part (p.first + 1) p.second (part 0 l.line s)) ≡ request_refusal frontends s
     unfolding request_refusal
     uri_aimed = rw (passes, e, uri_held)
 
     -- refused by one of steps 7 to 10
-    pub request_unaimed : {x : Refusal} {r : Request} → Refuses frontends m (part (p.first + 1) p.second (part 0 l.line s)) x → r ≡ refused_request x c nowhere → RequestIs frontends s r
-    request_unaimed f d =
-        request_refused
-        (λ z. let w : None ≡ Some Require = sym passes ∙ z in cc)
-        (λ _. refl)
-        (sym f ∙ uri_aimed)
-        h.begun.cseq_is
-        d
+    pub request_unaimed : {x : Refusal} → Refuses frontends m (part (p.first + 1) p.second (part 0 l.line s)) x → RefusedIs frontends s (refused_by x (Some c))
+    request_unaimed f = plainly (sym uri_aimed ∙ f) (λ e. uri_unrequired frontends m (part (p.first + 1) p.second (part 0 l.line s)) (f ∙ ap Some e)) h.begun.cseq_is
 
     moved : {ys : List ℕ} {j k : ℕ} → Holds (uri_of s) ys j k → Holds s ys (p.first + 1 + j) (p.first + 1 + k)
     moved {ys} {j} {k} x =
@@ -306,24 +251,44 @@ module _ (frontends : ℕ) (s : List ℕ) {l : Lines} {c : Span} {p : Parts} (h 
         (holds_inside 0 l.line s refl (omega arith) h.line_in
         (holds_inside (p.first + 1) p.second (part 0 l.line s) (sym uri_held) (omega (arith, h.first_in)) (omega (arith, h.second_in)) x))
 
-    pub request_passing : {a : Aim} → AimIs frontends m (part (p.first + 1) p.second (part 0 l.line s)) a → Passing frontends s l c m (p.first + 1) a
-    request_passing {a} i =
-        let own : AimIs frontends m (uri_of s) a = rw uri_held at i in
+    -- a query of the URI, by its place in the request
+    moved_query : {ys : List ℕ} (q : Option Span) → Holds (uri_of s) ys (unwrap_or q nowhere).start (unwrap_or q nowhere).end
+        → Holds s ys (unwrap_or (option_map (behind (p.first + 1)) q) nowhere).start (unwrap_or (option_map (behind (p.first + 1)) q) nowhere).end
+    moved_query (Some q) x = moved x
+    moved_query {ys} None x = let e : [] ≡ ys = x.is in rw (← e) (holds_nothing s)
+
+    -- or by none
+    pub request_asked : {a : Aim} {x : Session} {y : Option ℕ} → AimIs frontends m (part (p.first + 1) p.second (part 0 l.line s)) a
+        → x ≡ session_seen s (get_or l.headers 1 unseen) → y ≡ transport_of (head_text s (get_or l.headers 2 unseen))
+        → AskedIs frontends s (record {
+          codes = a.codes;
+          spans = a.spans;
+          cseq = c;
+          method = m;
+          stream = a.stream;
+          host = record { start = p.first + 1 + a.host.start; end = p.first + 1 + a.host.end };
+          query = option_map (behind (p.first + 1)) a.query;
+          session = x;
+          transport = y;
+        })
+    request_asked {a} d x y =
+        let i : AimIs frontends m (uri_of s) a = rw uri_held at d in
         record {
-          passes = sym uri_aimed ∙ i.passes;
-          cseq_is = h.begun.cseq_is;
-          method_is = e;
-          stream = own.stream;
-          host = moved own.host;
-          query = moved (queried own).0;
-          codes = own.codes;
-          spans = own.spans;
-          from_is = uri_starts;
-          host_starts = own.host_starts;
-          query_starts = (queried own).1;
-          starts = own.starts;
-          session = h.begun.lines.headers 1 (omega arith);
-          transport = h.begun.lines.headers 2 (omega arith);
+          passes = sym uri_aimed ∙ d.passes;
+          thirteen = d.thirteen;
+          cseq = h.begun.cseq_is;
+          method = e;
+          stream = i.stream;
+          host = moved i.host;
+          query = rw (uri_starts, i.query_place);
+          query_held = moved_query a.query (queried i);
+          query_some = mapped_some (behind (p.first + 1)) a.query ∙ i.query_some;
+          codes = i.codes;
+          spans = i.spans;
+          host_starts = rw (uri_starts, i.host_starts);
+          starts = i.starts;
+          session = x ∙ seen_session (h.begun.lines.headers 1 (omega arith));
+          transport = y ∙ ap transport_of (seen_text (h.begun.lines.headers 2 (omega arith)));
         }
 
 -- FROM THE LINES ON
@@ -339,7 +304,7 @@ module _ (s : List ℕ) {l : Lines} {c : Span} (b : Begun s l c) where
 
   pub request_unparted : is_three (part 0 l.line s) ≡ false → head_refusal s ≡ Some RequestLine
   unfolding head_refusal
-  request_unparted n = rw (b.lines.whole, b.some, ap is_three own_line ∙ n)
+  request_unparted n = rw (b.lines.whole, b.cseq_is.some, ap is_three own_line ∙ n)
 
   module _ {p : Parts} (i : PartsAre (part 0 l.line s) p) where
     three_is : is_three (request_line s) ≡ true
@@ -351,7 +316,7 @@ module _ (s : List ℕ) {l : Lines} {c : Span} (b : Begun s l c) where
 
       pub request_twice : t ≡ true → head_refusal s ≡ Some HeaderTwice
       unfolding head_refusal
-      request_twice z = rw (b.lines.whole, b.some, three_is, twice_is ∙ z)
+      request_twice z = rw (b.lines.whole, b.cseq_is.some, three_is, twice_is ∙ z)
 
       module _ (n : t ≡ false) {v : Bool} (u : v ≡ are_alike Counts (part (p.second + 1) (length (part 0 l.line s)) (part 0 l.line s)) (text "RTSP/1.0")) where
         version_is : is_version s ≡ v
@@ -359,40 +324,37 @@ module _ (s : List ℕ) {l : Lines} {c : Span} (b : Begun s l c) where
 
         pub request_unversioned : v ≡ false → head_refusal s ≡ Some Version
         unfolding head_refusal
-        request_unversioned z = rw (b.lines.whole, b.some, three_is, twice_is ∙ n, version_is ∙ z)
+        request_unversioned z = rw (b.lines.whole, b.cseq_is.some, three_is, twice_is ∙ n, version_is ∙ z)
 
         module _ (a : v ≡ true) where
           -- a Require header was sent
-          sent_is : ltb 0 (length (values_of 3 (header_lines s))) ≡ ltb 0 (times_of (get_or l.headers 3 unseen))
-          sent_is = sym (seen_sent (seen_of 3 (omega arith)))
+          module _ {x : Bool} (f : x ≡ is_some (first_seen (get_or l.headers 3 unseen))) where
+            sent_is : ltb 0 (length (values_of 3 (header_lines s))) ≡ x
+            sent_is = sym (f ∙ first_there (get_or l.headers 3 unseen) ∙ seen_sent (seen_of 3 (omega arith)))
 
-          required_is : ltb 0 (times_of (get_or l.headers 3 unseen)) ≡ true → head_refusal s ≡ Some Require
-          unfolding head_refusal
-          required_is y = rw (b.lines.whole, b.some, three_is, twice_is ∙ n, version_is ∙ a, sent_is ∙ y)
+            required_first : x ≡ true → head_refusal s ≡ Some Require
+            unfolding head_refusal
+            required_first y = rw (b.lines.whole, b.cseq_is.some, three_is, twice_is ∙ n, version_is ∙ a, sent_is ∙ y)
 
-          pub request_required : {frontends : ℕ} {r : Request} {place : Span} → first_seen (get_or l.headers 3 unseen) ≡ Some place → r ≡ refused_request Require c place → RequestIs frontends s r
-          unfolding request_refusal
-          request_required {place = place} h q =
-              let y : ltb 0 (times_of (get_or l.headers 3 unseen)) ≡ true = (first_there (get_or l.headers 3 unseen) h).0 in
-              let z : place_of (get_or l.headers 3 unseen) ≡ place = (first_there (get_or l.headers 3 unseen) h).1 in
-              request_refused
-              (λ _. (rw z at (seen_of 3 (omega arith)).value, rw z at (b.lines.starts 3 (omega arith))))
-              (λ n. absurd (n (required_is y)))
-              (rw (required_is y))
-              b.cseq_is
-              q
+            pub request_required : (frontends : ℕ) → x ≡ true → RefusedIs frontends s (record { refusal = Require; cseq = Some c; require = first_seen (get_or l.headers 3 unseen) })
+            request_required frontends y =
+                record {
+                  refusal = head_refused frontends s (required_first y);
+                  cseq = b.cseq_is;
+                  require = required_is (get_or l.headers 3 unseen) (seen_of 3 (omega arith)) (b.lines.starts 3 (omega arith)) (sym f ∙ y);
+                }
 
-          pub request_headed : first_seen (get_or l.headers 3 unseen) ≡ None → Headed s l c p
-          request_headed h =
-              let m = i.uri in
-              let k : length (part 0 l.line s) ≡ l.line - 0 = part_length 0 l.line s line_within in
-              record {
-                begun = b;
-                parts_are = i;
-                once = twice_is ∙ n;
-                version = version_is ∙ a;
-                free = sent_is ∙ first_none (get_or l.headers 3 unseen) h;
-                line_in = line_within;
-                first_in = omega (arith, m.order);
-                second_in = omega (arith, m.within);
-              }
+            pub request_headed : x ≡ false → Headed s l c p
+            request_headed y =
+                let m = i.uri in
+                let k : length (part 0 l.line s) ≡ l.line - 0 = part_length 0 l.line s line_within in
+                record {
+                  begun = b;
+                  parts_are = i;
+                  once = twice_is ∙ n;
+                  version = version_is ∙ a;
+                  free = sent_is ∙ y;
+                  line_in = line_within;
+                  first_in = omega (arith, m.order);
+                  second_in = omega (arith, m.within);
+                }

@@ -7,7 +7,7 @@ use digits::Zeros;
 use scan::Class;
 
 // The Session header: whether it was sent, and the number that it names.
-#[derive(Clone, Copy)]
+#[derive(Clone, Copy, PartialEq, Eq, Debug)]
 pub enum Session {
     Absent,
     Malformed,

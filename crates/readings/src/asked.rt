@@ -1,8 +1,7 @@
 // What a request asks, in words and numbers.
 use crate::out;
 use aim::Method;
-use reader::{Request, Session};
-use refusals::Refusal;
+use reader::{Asked, Refused, Session};
 use std::io;
 
 fn method(m: Method) -> &'static str {
@@ -31,8 +30,8 @@ fn transport(rt: &impl Print, port: Option<u32>) -> io::Result<()> {
 }
 
 // The attributes that are given, by their places: the code of each, and of a list of PIDs its text.
-fn attributes(rt: &impl Print, query: &[u8], r: &Request) -> io::Result<()> {
-    for (i, (code, span)) in r.codes.iter().zip(&r.spans).enumerate() {
+fn attributes(rt: &impl Print, query: &[u8], asked: &Asked) -> io::Result<()> {
+    for (i, (code, span)) in asked.codes.iter().zip(&asked.spans).enumerate() {
         if *code == 0 {
             continue;
         }
@@ -44,32 +43,42 @@ fn attributes(rt: &impl Print, query: &[u8], r: &Request) -> io::Result<()> {
     Ok(())
 }
 
-fn passed(rt: &impl Print, s: &[u8], r: &Request) -> io::Result<()> {
-    print!(rt; " method {} stream {} host ", method(r.method), r.stream)?;
-    out::part(rt, s, r.host)?;
-    session(rt, r.session)?;
-    transport(rt, r.transport)?;
-    match s.get(r.query.start..r.query.end) {
-        Some(query) => attributes(rt, query, r),
+fn passed(rt: &impl Print, s: &[u8], asked: &Asked) -> io::Result<()> {
+    print!(rt; " step 0 status 200 cseq ")?;
+    out::digits(rt, s, Some(asked.cseq))?;
+    print!(rt;
+        " method {} stream {} host ",
+        method(asked.method),
+        asked.stream.unwrap_or(0)
+    )?;
+    out::part(rt, s, asked.host)?;
+    session(rt, asked.session)?;
+    transport(rt, asked.transport)?;
+    let Some(query) = asked.query else {
+        return Ok(());
+    };
+    match s.get(query.start..query.end) {
+        Some(query) => attributes(rt, query, asked),
         None => Ok(()),
     }
 }
 
-// What the request `s` asks of a box with two frontends.
-pub(crate) fn request(rt: &impl Print, s: &[u8]) -> io::Result<()> {
-    let r = reader::read(s, 2);
-    let (step, status) = match r.refusal {
-        Some(refusal) => (refusals::step(refusal), refusals::status(refusal)),
-        None => (0, 200),
-    };
+fn refused(rt: &impl Print, s: &[u8], refused: &Refused) -> io::Result<()> {
+    let step = refusals::step(refused.refusal);
+    let status = refusals::status(refused.refusal);
     print!(rt; " step {step} status {status} cseq ")?;
-    out::digits(rt, s, r.cseq)?;
-    match r.refusal {
-        None => passed(rt, s, &r),
-        Some(Refusal::Require) => {
-            print!(rt; " require ")?;
-            out::part(rt, s, r.require)
-        }
-        Some(_) => Ok(()),
+    out::digits(rt, s, refused.cseq)?;
+    if let Some(require) = refused.require {
+        print!(rt; " require ")?;
+        out::part(rt, s, require)?;
+    }
+    Ok(())
+}
+
+// What the request `s` asks of a box with two frontends, or why it is refused.
+pub(crate) fn request(rt: &impl Print, s: &[u8]) -> io::Result<()> {
+    match reader::read(s, 2) {
+        Ok(asked) => passed(rt, s, &asked),
+        Err(why) => refused(rt, s, &why),
     }
 }

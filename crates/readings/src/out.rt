@@ -3,10 +3,13 @@ use scan::Span;
 use std::io;
 
 // The digits at a place of a text; a hyphen where there are none.
-pub(crate) fn digits(rt: &impl Print, s: &[u8], place: Span) -> io::Result<()> {
+pub(crate) fn digits(rt: &impl Print, s: &[u8], place: Option<Span>) -> io::Result<()> {
+    let Some(place) = place else {
+        return print!(rt; "-");
+    };
     match s.get(place.start..place.end) {
-        Some([]) | None => print!(rt; "-"),
         Some(digits) => rt.write_all(digits),
+        None => print!(rt; "-"),
     }
 }
 

@@ -11,28 +11,26 @@ use Rattle.scan.proofs.Bools.{cond_keeps, never}
 use Rattle.writing.specs.Wrote.{Wrote}
 use Rattle.writing.specs.Writing.{written}
 use Rattle.writing.proofs.Writes.{wrote_front, wrote_as}
-use Rattle.refusals.specs.Refusals as reading
 use Rattle.aim.specs.declared.Method.{Method}
 use Rattle.aim.specs.declared.Method.TheVariants.{Options, Setup, Play, Teardown, Other}
-use Rattle.reader.specs.Request.{request_refusal}
-use Rattle.reader.specs.Heads.{RequestIs}
-use Rattle.reader.specs.declared.Request.{Request}
-use Rattle.reader.proofs.RequestLaws.{passed_is}
+use Rattle.reader.specs.Heads.{AskedIs, RefusedIs}
+use Rattle.reader.specs.declared.Asked.{Asked as Read}
+use Rattle.reader.specs.declared.Refused.{Refused as Unread}
 use Rattle.answer.specs.Answers.{answer_text}
 use Rattle.answer.specs.declared.Answer.{Answer}
+use Rattle.table.specs.Table.{no_session}
 use Rattle.table.specs.declared.Session.{Session}
 use Rattle.table.specs.declared.SatBox.{SatBox}
 use Rattle.table.specs.declared.Refusal.{Refusal}
 use Rattle.stream.specs.declared.Stream.{Stream}
-use Rattle.refusals.specs.declared.Refusal.{Refusal as Unread}
 use Rattle.stream.specs.declared.Refusal.{Refusal as Unmerged}
 use Rattle.stream.specs.declared.Refusal.TheVariants.{Combination as Clash, TooMany}
 use Rattle.steps.specs.Sights.{Asked, Lists, asked_of, lists_of, sight_of}
 use Rattle.steps.specs.Steps.{is_passed, is_named, table_case, read_case}
 use Rattle.steps.specs.Replies.{reply_text}
-use Rattle.steps.specs.Handed.{reply_to}
+use Rattle.steps.specs.Handed.{reply_to, refused_reply}
 use Rattle.steps.specs.declared.cases.Case.TheVariants.{Reading, NotReached, Full}
-use Rattle.steps.proofs.ReplyLaws.{Follows, follows_passed, follows_refused, IsUnread, unread_chain, table_unread, reply_told, Numbers, reply_fits}
+use Rattle.steps.proofs.ReplyLaws.{IsUnread, unread_chain, table_unread, reply_told, refusal_told, Numbers, reply_fits, refusal_fits}
 use Rattle.closings.specs.Does.{Does}
 use Rattle.closings.specs.Closing.{swept, at_clock, bytes_of}
 use Rattle.serving.specs.Serving.{Serving, merging, merges, merge_case, is_unreached, is_opening, can_seat, case_of, kept, denied, grant, served, client_of, answered}
@@ -89,43 +87,53 @@ numbers n a p m = record { number = n; stream = omega arith; address = a; port =
 abbrev answer_to : List ℕ → ℕ → ℕ → SatBox → List ℕ
 answer_to s address draw t = reply_text (answered s address draw t).case s (answered s address draw t).session
 
-follows_read : (r : Request) (x : Option Unread) → r.refusal ≡ x → reading.is_read x ≡ false → Follows r (read_case x)
-follows_read r None e n = never refl n
-follows_read r (Some x) e n = follows_refused x refl e
+-- written into a buffer that is long enough
+module _ (s : List ℕ) (address draw : ℕ) (t : SatBox) {b c d : List ℕ} {v : Turn} {n : ℕ}
+    (p : TurnIs t (answered s address draw t) v) (h : 4096 ≤ length b) (w : Wrote b 0 c d n) (told : c ≡ answer_to s address draw t) (short : length (answer_to s address draw t) ≤ 4096) where
+  answer_front : (d ≡ answer_to s address draw t ++ drop (length (answer_to s address draw t)) b) × (n ≡ length (answer_to s address draw t))
+  answer_front = wrote_front (wrote_as told w) (omega (arith, short))
 
-module _ (s : List ℕ) (address draw : ℕ) (t : SatBox) (r : Request) (i : RequestIs t.settings.frontends s r) where
-  pub answered_follows : Follows r (answered s address draw t).case
+  -- its count is small
+  pub answer_count : n < 4294967296
+  answer_count = omega (arith, answer_front.1, short)
+
+  pub answer_done : Responds s address draw t b (record { turn = v; count = n }) d
+  answer_done = let c = answer_front.1 in record { turn = p; count = c; buffer = rw c answer_front.0 }
+
+-- what a request comes to, and an answer that says so and fits
+pub record IsAnswer (s : List ℕ) (address draw : ℕ) (t : SatBox) (v : Turn) (a : Answer) : Type 0 where
+  pub turn : TurnIs t (answered s address draw t) v
+  pub text : answer_text s a ≡ answer_to s address draw t
+  pub short : length (answer_to s address draw t) ≤ 4096
+
+-- of a request that steps 1 to 10 let through
+module _ (s : List ℕ) (address draw : ℕ) (t : SatBox) (r : Read) (i : AskedIs t.settings.frontends s r) where
+  answered_unread : IsUnread (answered s address draw t).case
   unfolding answered
-  answered_follows =
-      let a = asked_of t.settings.frontends s in
-      let client = client_of address draw a in
-      cond_keeps (λ x. Follows r x.case) (reading.is_read (request_refusal t.settings.frontends s))
-      (served (kept a t) a (lists_of s) client) (denied t (read_case (request_refusal t.settings.frontends s)))
-      (λ e. follows_passed (i.refusal ∙ passed_is _ e) (served_unread (kept a t) a (lists_of s) client))
-      (λ n. follows_read r _ i.refusal n)
+  answered_unread = rw i.passes (served_unread (kept (asked_of t.settings.frontends s) t) (asked_of t.settings.frontends s) (lists_of s) (client_of address draw (asked_of t.settings.frontends s)))
 
-  module _ {b d : List ℕ} {v : Turn} {a : Answer} {n : ℕ}
-      (p : TurnIs t (answered s address draw t) v) (m : Numbers (about_of v)) (h : 4096 ≤ length b)
-      (e : a ≡ reply_to (reason_of v) r (about_of v)) (w : Wrote b 0 (answer_text s a) d n) where
-    answer_told : answer_text s a ≡ answer_to s address draw t
-    answer_told =
+  module _ {v : Turn} {a : Answer} (p : TurnIs t (answered s address draw t) v) (e : a ≡ reply_to (reason_of v) r (about_of v)) where
+    pub asked_answer : answer_text s a ≡ answer_to s address draw t
+    asked_answer =
         let x = answered s address draw t in
-        rw (e, p.case, p.session) (reply_told t.settings.frontends s r i x.case x.session answered_follows)
+        rw (e, p.case, p.session) (reply_told t.settings.frontends s r i x.case x.session answered_unread)
 
-    answer_short : length (answer_to s address draw t) ≤ 4096
-    answer_short =
+    pub asked_fits : Numbers (about_of v) → length (answer_to s address draw t) ≤ 4096
+    asked_fits m =
         let x = answered s address draw t in
-        reply_fits t.settings.frontends s r i x.case x.session answered_follows (subst Numbers p.session m)
+        reply_fits t.settings.frontends s r i x.case x.session answered_unread (subst Numbers p.session m)
 
-    answer_front : (d ≡ answer_to s address draw t ++ drop (length (answer_to s address draw t)) b) × (n ≡ length (answer_to s address draw t))
-    answer_front = wrote_front (wrote_as answer_told w) (omega (arith, answer_short))
+-- and of one that they refuse
+module _ (s : List ℕ) (address draw : ℕ) (t : SatBox) (r : Unread) (i : RefusedIs t.settings.frontends s r) where
+  refused_is : answer_to s address draw t ≡ reply_text (Some (Reading r.refusal)) s no_session
+  unfolding answered
+  refused_is = rw i.refusal
 
-    -- its count is small
-    pub answer_count : n < 4294967296
-    answer_count = omega (arith, answer_front.1, answer_short)
+  pub refused_answer : {a : Answer} → a ≡ refused_reply r → answer_text s a ≡ answer_to s address draw t
+  refused_answer e = rw (e, refused_is) (refusal_told t.settings.frontends s r i no_session)
 
-    pub answer_done : Responds s address draw t b (record { turn = v; count = n }) d
-    answer_done = let c = answer_front.1 in record { turn = p; count = c; buffer = rw c answer_front.0 }
+  pub refused_fits : length (answer_to s address draw t) ≤ 4096
+  refused_fits = rw refused_is (refusal_fits t.settings.frontends s r i no_session)
 
 -- THE CALL
 module _ (s : List ℕ) (clock address draw : ℕ) (t : SatBox) (b j : List ℕ) where

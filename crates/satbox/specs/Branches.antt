@@ -1,17 +1,9 @@
 -- How far a request has come between the private functions of its call: what it comes to on a swept table. Assumes nothing.
 use Rattle.std.specs.Prelude.{ℕ, ◌≡◌, true, cond, List, ◌++◌, length, drop, Option}
-use Rattle.refusals.specs.Refusals.{is_read}
-use Rattle.refusals.specs.declared.Refusal.{Refusal}
-use Rattle.reader.specs.declared.Request.{Request}
-use Rattle.reader.specs.declared.fields.Session.{Session as Sent}
 use Rattle.scan.specs.Lists.{first}
 use Rattle.table.specs.Table.{unless, has_number, session_at}
 use Rattle.table.specs.declared.SatBox.{SatBox}
-use Rattle.steps.specs.Sights.{session_number}
-use Rattle.steps.specs.Handed.{Told}
-use Rattle.steps.specs.Steps.{is_passed}
 use Rattle.steps.specs.Replies.{reply_text}
-use Rattle.steps.specs.declared.cases.Case.{Case}
 use Rattle.serving.specs.Serving.{refreshed, answered}
 use Rattle.serving.specs.declared.opening.Seat.{Seat}
 use Rattle.serving.specs.Turns.{TurnIs}
@@ -22,21 +14,13 @@ pub record IsBox (t : SatBox) : Type 0 where
   pub places : length t.sessions ≡ 32
   pub rows : length t.streams ≡ 8
 
--- the number of the session that a request names, where steps 1 to 10 let it through
-abbrev pub number_by : Option Refusal → Sent → ℕ
-number_by refusal sent = cond (is_read refusal) (session_number sent) 0
-
--- the place of the session that has it
+-- the place of the session that has a number
 abbrev pub place_with : SatBox → ℕ → Option ℕ
 place_with t number = unless 32 (first (has_number number) t.sessions)
 
 -- that session, with the clock as its last time
 abbrev pub seat_kept : SatBox → ℕ → Seat
 seat_kept t place = record { place = place; session = refreshed t.clock (session_at t place) }
-
--- what passed steps 1 to 15 was read
-abbrev pub Tells : List ℕ → Request → Option Case → Type 0
-Tells s r case = is_passed case ≡ true → Told s r
 
 -- x and d are what a request on a swept table t comes to, and the answer buffer b with its answer
 pub record Responds (s : List ℕ) (address draw : ℕ) (t : SatBox) (b : List ℕ) (x : Response) (d : List ℕ) : Type 0 where

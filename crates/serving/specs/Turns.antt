@@ -5,8 +5,8 @@ use Rattle.aim.specs.Aim.{method_number}
 use Rattle.aim.specs.declared.Method.{Method}
 use Rattle.aim.specs.declared.Method.TheVariants.{Options, Setup, Play, Teardown, Other}
 use Rattle.refusals.specs.declared.Refusal.{Refusal}
-use Rattle.reader.specs.Heads.{RequestIs}
-use Rattle.reader.specs.declared.Request.{Request}
+use Rattle.reader.specs.Heads.{AskedIs}
+use Rattle.reader.specs.declared.Asked.{Asked as Read}
 use Rattle.journal.specs.Records.{record_size}
 use Rattle.stream.specs.Streams.{blank}
 use Rattle.stream.specs.declared.Stream.{Stream}
@@ -221,7 +221,7 @@ pub record TurnIs (t : SatBox) (y : Serving) (x : Turn) : Type 0 where
   pub can : Performable t x
 
 -- HOW FAR IT HAS COME: a request that was read, on a well-formed table with all its places
-pub record Servable (t : SatBox) (s : List ℕ) (r : Request) : Type 0 where
+pub record Servable (t : SatBox) (s : List ℕ) (r : Read) : Type 0 where
   pub formed : well_formed t ≡ true
   pub places : length t.sessions ≡ 32
   pub rows : length t.streams ≡ 8
@@ -229,19 +229,19 @@ pub record Servable (t : SatBox) (s : List ℕ) (r : Request) : Type 0 where
   pub fe : get_or r.codes 1 0 ≤ t.settings.frontends
 
 -- steps 11 to 15 let it through
-pub record Through (t : SatBox) (s : List ℕ) (r : Request) (v : Sight) : Type 0 where
+pub record Through (t : SatBox) (s : List ℕ) (r : Read) (v : Sight) : Type 0 where
   pub servable : Servable t s r
   pub sight : v ≡ sight_of t (asked_by r)
   pub passed : table_case v ≡ None
 
 -- it opens a session on a new stream, or on a live one
-pub record Opens (t : SatBox) (s : List ℕ) (r : Request) (v : Sight) : Type 0 where
+pub record Opens (t : SatBox) (s : List ℕ) (r : Read) (v : Sight) : Type 0 where
   pub through : Through t s r v
   pub setup : v.method ≡ Setup
   pub stranger : is_named v ≡ false
 
 -- it is a SETUP or a PLAY of an open session
-pub record Retunes (t : SatBox) (s : List ℕ) (r : Request) (v : Sight) : Type 0 where
+pub record Retunes (t : SatBox) (s : List ℕ) (r : Read) (v : Sight) : Type 0 where
   pub through : Through t s r v
   pub takes : takes_query v.method ≡ true
   pub named : is_named v ≡ true
@@ -249,10 +249,6 @@ pub record Retunes (t : SatBox) (s : List ℕ) (r : Request) (v : Sight) : Type 
 -- the stream that it names was looked up, where that is live
 abbrev pub Found : SatBox → Sight → Stream → Type 0
 Found t v m = (v.frontend ≡ 0 → ⊥) → m ≡ stream_of t v.stream
-
--- the first of steps 1 to 15 that refuses it
-abbrev pub first_case : Option Refusal → Sight → Option Case
-first_case refusal v = cond (reading.is_read refusal) (table_case v) (read_case refusal)
 
 abbrev pub opens_now : Option Case → Sight → Bool
 opens_now case v = is_passed case && is_opening v
@@ -265,11 +261,11 @@ abbrev pub unmerged_by : Sight → Stream → Offer → Stream
 unmerged_by v m o = cond (eqb v.stream 0) (blank (unwrap_or o.feed 0)) m
 
 -- a request as it was read, and what was looked up for it
-pub record Looks (t : SatBox) (s : List ℕ) (r : Request) (v : Sight) (m : Stream) (case : Option Case) : Type 0 where
+pub record Looks (t : SatBox) (s : List ℕ) (r : Read) (v : Sight) (m : Stream) (case : Option Case) : Type 0 where
   pub formed : well_formed t ≡ true
   pub places : length t.sessions ≡ 32
   pub rows : length t.streams ≡ 8
-  pub is : RequestIs t.settings.frontends s r
+  pub is : AskedIs t.settings.frontends s r
   pub sight : v ≡ sight_of t (asked_by r)
-  pub first : case ≡ first_case r.refusal v
+  pub first : case ≡ table_case v
   pub stream : Found t v m

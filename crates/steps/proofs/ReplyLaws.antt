@@ -1,7 +1,7 @@
 -- What a request is answered with, by the reader's places, is what its bytes say; and every such answer fits its buffer. Assumes nothing.
 use mathlib.Core.Path.{◌≡◌, refl, ap, subst, ◌∙◌, sym}
 use mathlib.Core.Bool.{Bool, true, false, not, cond, ◌&&◌}
-use mathlib.Core.List.{List, []}
+use mathlib.Core.List.{List, [], ◌∷◌}
 use Prim.Native.Nat.{ℕ, ◌≤◌, ◌<◌}
 use native.Mathlib.Omega.{arith}
 use lib.Dec.{eqb, ltb}
@@ -9,7 +9,8 @@ use lib.ListN.{length}
 use borrow.Author.Tests.{eqb-true, eqb-false}
 use Rattle.std.specs.Prelude.{is_some}
 use Rattle.scan.specs.Lists.{all, ◌gives◌or◌}
-use Rattle.scan.specs.Found.{text_at}
+use Rattle.scan.specs.Text.{is_empty}
+use Rattle.scan.specs.Found.{text_at, nowhere}
 use Rattle.scan.specs.declared.Span.{Span}
 use Rattle.scan.proofs.Bools.{never, by_test, cond_keeps}
 use Rattle.scan.proofs.Parts.{text_held, text_within, text_nowhere}
@@ -27,21 +28,23 @@ use Rattle.aim.specs.declared.Method.{Method}
 use Rattle.aim.specs.declared.Method.TheVariants.{Options, Setup, Play, Teardown, Other}
 use Rattle.refusals.specs.declared.Refusal.{Refusal}
 use Rattle.refusals.specs.declared.Refusal.TheVariants as refusal
-use Rattle.reader.specs.Heads.{RequestIs}
+use Rattle.reader.specs.Heads.{CseqIs, RequireIs, AskedIs, RefusedIs}
+use Rattle.reader.proofs.RequestLaws.{gives_keeps}
 use Rattle.reader.specs.Request.{method_of, uri_of, cseq_most, cseq_limit, cseq_of, head_refusal, request_refusal}
-use Rattle.reader.specs.declared.Request.{Request}
+use Rattle.reader.specs.declared.Asked.{Asked as Read}
+use Rattle.reader.specs.declared.Refused.{Refused}
 use Rattle.table.specs.declared.Session.{Session}
 use Rattle.answer.specs.Lines.{refused_lines, answer_lines}
-use Rattle.answer.specs.Answers.{lines_by, lines_of, answer_text}
+use Rattle.answer.specs.Answers.{lines_by, answer_text}
 use Rattle.answer.specs.declared.Answer.{Answer}
 use Rattle.answer.specs.declared.Kind.TheVariants as kind
 use Rattle.answer.proofs.Fits.{answer_fits}
-use Rattle.steps.proofs.Telling.{asked_short, head_short}
-use Rattle.std.specs.Prelude.{Option, Some, None}
+use Rattle.steps.proofs.Telling.{asked_short, request_short}
+use Rattle.std.specs.Prelude.{Option, Some, None, MatchOption, unwrap_or}
 use Rattle.steps.specs.Steps.{rule_of, status_of, read_case, is_passed, table_case}
 use Rattle.steps.specs.Tests.{lacks_session, names_dead, is_out_of_state, is_anothers, lacks_port}
 use Rattle.steps.specs.Replies.{granted_lines, reply_lines, reply_text}
-use Rattle.steps.specs.Handed.{granted_kind, reply_to}
+use Rattle.steps.specs.Handed.{refused_kind, granted_kind, kind_of, reply_to, refused_reply}
 use Rattle.steps.specs.declared.Sight.{Sight}
 use Rattle.steps.specs.declared.cases.Case.{Case}
 use Rattle.steps.specs.declared.cases.Case.TheVariants.{Reading, NoSession, NotLive, State, NotOwner, Transport, Combination, TooManyPids, NotReached, Full}
@@ -50,11 +53,6 @@ use Rattle.refusals.specs.Refusals.{reading_rule}
 -- a case that is none of the reading's
 abbrev pub IsUnread : Option Case → Type 0
 IsUnread c = (x : Refusal) → c ≡ Some (Reading x) → ⊥
-
--- a case that what was read may have: its refusal, or where it has none any other
-pub data Follows (r : Request) (c : Option Case) : Type 0 where
-  follows_passed : r.refusal ≡ None → IsUnread c → Follows r c
-  follows_refused : (x : Refusal) → c ≡ Some (Reading x) → r.refusal ≡ Some x → Follows r c
 
 -- what passes is none of the refusals
 pub passed_none : (c : Option Case) → is_passed c ≡ true → c ≡ None
@@ -65,14 +63,9 @@ pub read_passes : (x : Option Refusal) → is_passed (read_case x) ≡ reading.i
 read_passes None = refl
 read_passes (Some x) = refl
 
--- what holds of two refusals holds of the first that applies
-refuses_keeps : {A : Type 0} (P : A → Type 0) (b : Bool) (x y : A) → P x → P y → P (b gives x or y)
-refuses_keeps P true x y p q = p
-refuses_keeps P false x y p q = q
-
 -- steps 11 to 15 are none of the reading's
 pub unread_chain : (b : Bool) (c d : Option Case) → IsUnread c → IsUnread d → IsUnread (b gives c or d)
-unread_chain = refuses_keeps IsUnread
+unread_chain = gives_keeps IsUnread
 
 pub table_unread : (v : Sight) → IsUnread (table_case v)
 unfolding table_case
@@ -84,38 +77,6 @@ table_unread v =
     (unread_chain (lacks_port v) (Some Transport) None (λ x e. cc) (λ x e. cc)))))
 
 -- THE WORD THAT AN ANSWER REPEATS
--- step 5 is a Require header's
-uri_step : (frontends : ℕ) (method : Method) (u : List ℕ) → uri_refusal frontends method u ≡ Some refusal.Require → ⊥
-unfolding uri_refusal
-uri_step frontends method u =
-    keeps (ltb 1024 (length u)) (Some refusal.UriLong) _ (λ e. other _ e (λ k. omega arith))
-    (keeps (not (is_uri u)) (Some refusal.UriForm) _ (λ e. other _ e (λ k. omega arith))
-    (keeps (has_query u && takes_no_query method) (Some refusal.QueryUntaken) _ (λ e. other _ e (λ k. omega arith))
-    (keeps (not (are_parts [] (parts_of u))) (Some refusal.QueryForm) _ (λ e. other _ e (λ k. omega arith))
-    (keeps (is_given 10 u && edits u) (Some refusal.PidsClash) _ (λ e. other _ e (λ k. omega arith))
-    (keeps (edits u && not (has_stream u)) (Some refusal.PidsUnstreamed) _ (λ e. other _ e (λ k. omega arith))
-    (keeps (not (all (is_within frontends) (parts_of u))) (Some refusal.Value) _ (λ e. other _ e (λ k. omega arith))
-    (keeps (lacks_stream method (has_stream u) (has_query u)) (Some refusal.NoStream) None (λ e. other _ e (λ k. omega arith)) (λ e. cc))))))))
-  where
-    keeps : (b : Bool) (x y : Option Refusal) → (x ≡ Some refusal.Require → ⊥) → (y ≡ Some refusal.Require → ⊥) → (b gives x or y) ≡ Some refusal.Require → ⊥
-    keeps = refuses_keeps (λ x. x ≡ Some refusal.Require → ⊥)
-
-    -- a case of another step
-    other : (x : Refusal) → Some x ≡ Some refusal.Require → ((reading_rule x).0 ≡ 5 → ⊥) → ⊥
-    other x e k = let o : x ≡ refusal.Require = cc in k (ap (λ r. (reading_rule r).0) o)
-
-required : (frontends : ℕ) (s : List ℕ) → request_refusal frontends s ≡ Some refusal.Require → head_refusal s ≡ Some refusal.Require
-unfolding request_refusal
-required frontends s =
-    by_test (λ t. (not t gives head_refusal s or uri_refusal frontends (method_of s) (uri_of s)) ≡ Some refusal.Require → head_refusal s ≡ Some refusal.Require)
-    (reading.is_read (head_refusal s))
-    (λ _ e. absurd (uri_step frontends (method_of s) (uri_of s) e))
-    (λ _ e. e)
-
-requires : (frontends : ℕ) (s : List ℕ) → head_refusal s ≡ Some refusal.Require → request_refusal frontends s ≡ Some refusal.Require
-unfolding request_refusal
-requires frontends s e = rw e
-
 -- step 5 is a Require header's
 fifth : (c : Case) → (rule_of c).0 ≡ 5 → c ≡ Reading refusal.Require
 fifth (Reading refusal.Layout) e = absurd (omega arith)
@@ -144,7 +105,7 @@ fifth NotReached e = absurd (omega arith)
 fifth Full e = absurd (omega arith)
 
 -- the lines of a kind are those of its method or its step
-granted_told : (method : Method) (host : List ℕ) (c : Option Case) (r : Request) (session : Session) → lines_by (granted_kind method) host (reply_to c r session) ≡ granted_lines method host session
+granted_told : (method : Method) (host : List ℕ) (c : Option Case) (r : Read) (session : Session) → lines_by (granted_kind method) host (reply_to c r session) ≡ granted_lines method host session
 unfolding reply_to
 granted_told Options host c r session = refl
 granted_told Setup host c r session = refl
@@ -164,59 +125,77 @@ refused_told step word value a h = by (eqb step 5) (eqb step 6) (eqb step 10) h
     by false false true k = refl
     by false false false k = refl
 
-module _ (frontends : ℕ) (s : List ℕ) (r : Request) (i : RequestIs frontends s r) where
-  text_none : (r.refusal ≡ Some refusal.Require → ⊥) → text_at s r.require ≡ []
-  text_none h = rw (i.unrequired (λ z. h (i.refusal ∙ requires frontends s z))) (text_nowhere s)
+-- the digits of CSeq are those that were sent
+cseq_told : {s : List ℕ} {place : Span} → CseqIs s place → text_at s place ≡ cseq_of s
+cseq_told {s} {place} i = text_held s (cseq_of s) place i.held
 
-  text_after : r.refusal ≡ None → text_at s r.require ≡ []
-  text_after p = text_none (λ e. let n : None ≡ Some refusal.Require = sym p ∙ e in cc)
+-- none, where there is no such CSeq
+cseq_given : (s : List ℕ) (c : Option Span) → MatchOption c (is_empty (cseq_of s) ≡ true) (CseqIs s) → text_at s (unwrap_or c nowhere) ≡ cseq_of s
+cseq_given s (Some place) i = cseq_told i
+cseq_given s None n = text_nowhere s ∙ sym (none_there (cseq_of s) n)
+  where
+    none_there : (xs : List ℕ) → is_empty xs ≡ true → xs ≡ []
+    none_there [] e = refl
+    none_there (x ∷ xs) e = never e refl
 
-  required_by : {c : Case} → Follows r (Some c) → eqb (rule_of c).0 5 ≡ true → head_refusal s ≡ Some refusal.Require
-  required_by {c} p y = required frontends s (sym i.refusal ∙ by p (fifth c (eqb-true (rule_of c).0 5 y)))
-    where
-      by : Follows r (Some c) → c ≡ Reading refusal.Require → r.refusal ≡ Some refusal.Require
-      by (follows_passed q n) e = absurd (n refusal.Require (ap Some e))
-      by (follows_refused x q n) e = let k : x ≡ refusal.Require = cc in rw k at n
+-- the value of a Require header, where step 5 refuses
+require_given : (s : List ℕ) (x : Refusal) (r : Option Span) → MatchOption r (x ≡ refusal.Require → ⊥) (RequireIs s x) → x ≡ refusal.Require
+    → text_at s (unwrap_or r nowhere) ≡ first_value (values_of 3 (header_lines s))
+require_given s x (Some place) i e = text_held s (first_value (values_of 3 (header_lines s))) place i.held
+require_given s x None n e = absurd (n e)
 
-  -- nothing else is told
-  untold : {c : Case} → Follows r (Some c) → eqb (rule_of c).0 5 ≡ false → text_at s r.require ≡ []
-  untold (follows_passed q n) z = text_after q
-  untold {c} (follows_refused x q n) z = text_none (λ k. let e : c ≡ Reading refusal.Require = cc in eqb-false (rule_of c).0 5 z (ap (λ d. (rule_of d).0) e))
-
-  -- which place of the request is repeated
+-- THE ANSWER IS WHAT THE REQUEST'S BYTES SAY: of one that steps 1 to 10 let through
+module _ (frontends : ℕ) (s : List ℕ) (r : Read) (i : AskedIs frontends s r) where
   abbrev word_at : Option Case → Span
-  word_at c = cond (is_passed c) r.host r.require
+  word_at c = cond (is_passed c) r.host nowhere
 
-  lines_told_law : (c : Option Case) (session : Session) → Follows r c → lines_of (text_at s (word_at c)) (reply_to c r session) ≡ reply_lines c s session
+  lines_told_law : (c : Option Case) (session : Session) → IsUnread c → lines_by (kind_of c r.method) (text_at s (word_at c)) (reply_to c r session) ≡ reply_lines c s session
   unfolding reply_to
-  lines_told_law None session (follows_passed p n) =
+  lines_told_law None session n =
       granted_told r.method (text_at s r.host) None r session
-      ∙ ap (λ m. granted_lines m (text_at s r.host) session) (i.method p)
-      ∙ ap (λ host. granted_lines (method_of s) host session) (text_held s (host_of (uri_of s)) r.host (i.host p))
-  lines_told_law None session (follows_refused x e n) = cc
-  lines_told_law (Some c) session p =
-      refused_told (rule_of c).0 (text_at s r.require) (first_value (values_of 3 (header_lines s))) (reply_to (Some c) r session) (λ y. text_held s _ r.require (i.require (required_by p y)))
+      ∙ ap (λ m. granted_lines m (text_at s r.host) session) i.method
+      ∙ ap (λ host. granted_lines (method_of s) host session) (text_held s (host_of (uri_of s)) r.host i.host)
+  lines_told_law (Some c) session n =
+      refused_told (rule_of c).0 (text_at s nowhere) (first_value (values_of 3 (header_lines s))) (reply_to (Some c) r session)
+      (λ y. absurd (n refusal.Require (ap Some (fifth c (eqb-true (rule_of c).0 5 y)))))
 
-  -- and the digits of CSeq are those that were sent
-  cseq_told : text_at s r.cseq ≡ cseq_of s
-  cseq_told = text_held s (cseq_of s) r.cseq i.cseq.held
-
-  -- THE ANSWER IS WHAT THE REQUEST'S BYTES SAY
-  pub reply_told : (c : Option Case) (session : Session) → Follows r c → answer_text s (reply_to c r session) ≡ reply_text c s session
+  pub reply_told : (c : Option Case) (session : Session) → IsUnread c → answer_text s (reply_to c r session) ≡ reply_text c s session
   unfolding reply_to reply_text
-  reply_told c session p =
-      ap (answer_lines (status_of c) (text_at s r.cseq)) (lines_told_law c session p)
-      ∙ ap (λ digits. answer_lines (status_of c) digits (reply_lines c s session)) cseq_told
+  reply_told c session n =
+      ap (answer_lines (status_of c) (text_at s r.cseq)) (lines_told_law c session n)
+      ∙ ap (λ digits. answer_lines (status_of c) digits (reply_lines c s session)) (cseq_told i.cseq)
 
-  -- ITS WORD IS SHORT
-  word_short : (c : Option Case) → Follows r c → length (text_at s (word_at c)) ≤ 2048
-  word_short None (follows_passed p n) = omega (arith, text_within s r.host, asked_short frontends s (sym i.refusal ∙ p))
-  word_short None (follows_refused x e n) = cc
-  word_short (Some c) p =
-      by_test (λ _. length (text_at s r.require) ≤ 2048) (eqb (rule_of c).0 5)
-      (λ y. let h = required_by p y in
-      omega (arith, text_within s r.require, head_short s (λ z. let k : ◌≡◌ {A = Option Refusal} (Some refusal.Require) (Some refusal.Layout) = sym h ∙ z in cc)))
-      (λ z. rw (untold p z) (omega arith))
+  -- its word is short
+  word_short : (c : Option Case) → length (text_at s (word_at c)) ≤ 2048
+  word_short c = omega (arith, text_within s (word_at c), asked_short frontends s i.passes)
+
+-- and of one that they refuse
+module _ (frontends : ℕ) (s : List ℕ) (x : Refused) (j : RefusedIs frontends s x) where
+  abbrev value_at : Span
+  value_at = unwrap_or x.require nowhere
+
+  is_fifth : eqb (reading_rule x.refusal).0 5 ≡ true → x.refusal ≡ refusal.Require
+  is_fifth y = let e : Reading x.refusal ≡ Reading refusal.Require = fifth (Reading x.refusal) (eqb-true (reading_rule x.refusal).0 5 y) in cc
+
+  refusal_lines : (session : Session) → lines_by (refused_kind (Reading x.refusal)) (text_at s value_at) (refused_reply x) ≡ reply_lines (Some (Reading x.refusal)) s session
+  refusal_lines session =
+      refused_told (reading_rule x.refusal).0 (text_at s value_at) (first_value (values_of 3 (header_lines s))) (refused_reply x)
+      (λ y. require_given s x.refusal x.require j.require (is_fifth y))
+
+  pub refusal_told : (session : Session) → answer_text s (refused_reply x) ≡ reply_text (Some (Reading x.refusal)) s session
+  unfolding refused_reply reply_text
+  refusal_told session =
+      ap (answer_lines (reading_rule x.refusal).1 (text_at s (unwrap_or x.cseq nowhere))) (refusal_lines session)
+      ∙ ap (λ digits. answer_lines (reading_rule x.refusal).1 digits (reply_lines (Some (Reading x.refusal)) s session)) (cseq_given s x.cseq j.cseq)
+
+  required_short : length (text_at s value_at) ≤ 2048
+  required_short = short x.require j.require
+    where
+      short : (r : Option Span) → MatchOption r (x.refusal ≡ refusal.Require → ⊥) (RequireIs s x.refusal) → length (text_at s (unwrap_or r nowhere)) ≤ 2048
+      short (Some place) i =
+          let read : request_refusal frontends s ≡ Some refusal.Layout → ⊥ = λ z. let k : Some x.refusal ≡ Some refusal.Layout = sym j.refusal ∙ z in let e = i.is in cc in
+          omega (arith, text_within s place, request_short frontends s read)
+      short None n = rw (text_nowhere s) (omega arith)
 
 -- EVERY ANSWER FITS
 status_read : (q : Refusal) → (reading_rule q).1 < 1000
@@ -271,18 +250,33 @@ pub record Numbers (session : Session) : Type 0 where
   pub address : session.address < 4294967296
   pub port : session.port < 4294967296
 
-module _ (frontends : ℕ) (s : List ℕ) (r : Request) (i : RequestIs frontends s r) where
-  pub reply_fits : (c : Option Case) (session : Session) → Follows r c → Numbers session → length (reply_text c s session) ≤ 4096
-  unfolding reply_to
-  reply_fits c session p n =
-      subst (λ t. length t ≤ 4096) (reply_told frontends s r i c session p)
-      (answer_fits (text_at s r.cseq) (text_at s (cond (is_passed c) r.host r.require)) (reply_to c r session)
-      (record {
-        status = omega (arith, status_small c);
-        session = n.number;
-        stream = n.stream;
-        address = n.address;
-        port = n.port;
-      })
-      (rw (cseq_told frontends s r i) (cseq_short s))
-      (word_short frontends s r i c p))
+pub reply_fits : (frontends : ℕ) (s : List ℕ) (r : Read) → AskedIs frontends s r → (c : Option Case) (session : Session) → IsUnread c → Numbers session
+    → length (reply_text c s session) ≤ 4096
+unfolding reply_to
+reply_fits frontends s r i c session u n =
+    subst (λ t. length t ≤ 4096) (reply_told frontends s r i c session u)
+    (answer_fits (text_at s r.cseq) (text_at s (cond (is_passed c) r.host nowhere)) (reply_to c r session)
+    (record {
+      status = omega (arith, status_small c);
+      session = n.number;
+      stream = n.stream;
+      address = n.address;
+      port = n.port;
+    })
+    (rw (cseq_told i.cseq) (cseq_short s))
+    (word_short frontends s r i c))
+
+pub refusal_fits : (frontends : ℕ) (s : List ℕ) (x : Refused) → RefusedIs frontends s x → (session : Session) → length (reply_text (Some (Reading x.refusal)) s session) ≤ 4096
+unfolding refused_reply
+refusal_fits frontends s x j session =
+    subst (λ t. length t ≤ 4096) (refusal_told frontends s x j session)
+    (answer_fits (text_at s (unwrap_or x.cseq nowhere)) (text_at s (unwrap_or x.require nowhere)) (refused_reply x)
+    (record {
+      status = omega (arith, status_read x.refusal);
+      session = omega arith;
+      stream = omega arith;
+      address = omega arith;
+      port = omega arith;
+    })
+    (rw (cseq_given s x.cseq j.cseq) (cseq_short s))
+    (required_short frontends s x j))

@@ -22,10 +22,11 @@ use Rattle.digits.proofs.Limits.{number_between}
 use Rattle.lines.specs.Lines.{is_laid_out, request_line, header_lines}
 use Rattle.lines.specs.Headers.{values_of}
 use Rattle.target.specs.Line.{is_three, line_part}
-use Rattle.target.specs.Uri.{starts_with, query_of}
+use Rattle.target.specs.Uri.{starts_with, stream_named}
 use Rattle.tuning.specs.Values.{value_of}
 use Rattle.stream.specs.Arrays.{kept, is_fit, are_fit, is_in}
 use Rattle.stream.proofs.Fitting.{all_in, fit_of, read_ranged}
+use Rattle.aim.proofs.AimLaws.{given_code}
 use Rattle.aim.specs.Query.{code_from, parts_of, text_in, code_in}
 use Rattle.refusals.specs.declared.Refusal.{Refusal}
 use Rattle.refusals.specs.declared.Refusal.TheVariants.{Layout, CSeq, RequestLine, HeaderTwice, Version, Require}
@@ -34,9 +35,9 @@ use Rattle.refusals.specs.Refusals.{is_read}
 use Rattle.aim.specs.Aim.{method_number}
 use Rattle.aim.specs.declared.Method.TheVariants.{Other}
 use Rattle.reader.specs.Fields.{transport_of, ports_in, port_from}
-use Rattle.reader.specs.Heads.{is_pair, dash, RequestIs}
+use Rattle.reader.specs.Heads.{is_pair, dash, AskedIs}
 use Rattle.reader.specs.Request.{uri_of, method_of, cseq_of, is_twice, head_refusal, request_refusal}
-use Rattle.reader.specs.declared.Request.{Request}
+use Rattle.reader.specs.declared.Asked.{Asked as Read}
 use Rattle.std.specs.Prelude.{Option, Some, None}
 use Rattle.steps.specs.Sights.{codes_in, asked_of, lists_of}
 use Rattle.steps.specs.Handed.{asked_by, lists_by, Told}
@@ -60,30 +61,23 @@ pub code_at : (frontends a : ℕ) (u : List ℕ) → a < 13 → get_or (codes_in
 unfolding codes_in
 code_at frontends a u h = counted (λ k. code_in frontends k (parts_of u)) 0 13 a h ∙ ap (λ k. code_in frontends k (parts_of u)) (omega arith)
 
-module _ (frontends : ℕ) (s : List ℕ) (r : Request) (i : RequestIs frontends s r) (p : r.refusal ≡ None) where
-  codes_told : length r.codes ≡ 13 → r.codes ≡ codes_in frontends (uri_of s)
-  codes_told e =
-      ext_get_or 0 r.codes (codes_in frontends (uri_of s)) (e ∙ sym (codes_length frontends (uri_of s)))
-      (λ a h. i.codes p a ∙ sym (code_at frontends a (uri_of s) (omega arith)))
+module _ (frontends : ℕ) (s : List ℕ) (r : Read) (i : AskedIs frontends s r) where
+  codes_told : r.codes ≡ codes_in frontends (uri_of s)
+  codes_told =
+      ext_get_or 0 r.codes (codes_in frontends (uri_of s)) (i.thirteen.0 ∙ sym (codes_length frontends (uri_of s)))
+      (λ a h. i.codes a ∙ sym (code_at frontends a (uri_of s) (omega (arith, i.thirteen.0))))
 
-  query_told : ltb r.query.start r.query.end ≡ ltb 0 (length (query_of (uri_of s)))
-  query_told =
-      let n : r.query.end ≡ r.query.start + length (query_of (uri_of s)) = holds_length (i.query p) in
-      by_cases (ℕ_discrete (length (query_of (uri_of s))) 0)
-      (λ z. rw (le-ltb r.query.start r.query.end (omega arith), le-ltb 0 (length (query_of (uri_of s))) (omega arith)))
-      (λ z. rw (lt-ltb r.query.start r.query.end (omega arith), lt-ltb 0 (length (query_of (uri_of s))) (omega arith)))
-
-  pub asked_told : length r.codes ≡ 13 → asked_by r ≡ asked_of frontends s
-  asked_told e = rw (i.method p, ← i.stream p, codes_told e, query_told, i.session p, i.transport p)
+  pub asked_told : asked_by r ≡ asked_of frontends s
+  asked_told = rw (i.method, i.stream, given_code (stream_named (uri_of s)), codes_told, i.query_some, i.session, i.transport)
 
   pub lists_told : lists_by s r ≡ lists_of s
-  lists_told = rw ((i.query p).is, (i.spans p 10).is, (i.spans p 11).is, (i.spans p 12).is)
+  lists_told = rw (i.query_held.is, (i.spans 10).is, (i.spans 11).is, (i.spans 12).is)
 
   pub told : Told s r
   told =
       record {
-        query = record { order = (i.query p).order; within = (i.query p).within; is = refl };
-        list = λ a. rw (i.query p).is (record { order = (i.spans p a).order; within = (i.spans p a).within; is = refl });
+        query = record { order = i.query_held.order; within = i.query_held.within; is = refl };
+        list = λ a. rw i.query_held.is (record { order = (i.spans a).order; within = (i.spans a).within; is = refl });
       }
 
 -- WHAT IS READ OF A TEXT IS IN RANGE

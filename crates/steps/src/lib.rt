@@ -14,8 +14,8 @@ ghost use Rattle.steps.specs.Steps.{table_case};
 
 use aim::Method;
 pub use cases::Case;
-use reader::Request;
-pub use replies::answer_to;
+use reader::Asked;
+pub use replies::{answer_to, answer_to_refused};
 use table::Session;
 
 // What steps 11 to 15, and 17 for a src, look at: of the request its method, whether it sends a Session header, the stream that it names, the
@@ -55,16 +55,16 @@ pub fn number_of(sent: reader::Session) -> Option<u32>
 
 // Gathers what the steps look at: of the table the place of the session that is named, that session, and the frontend of the stream with
 // what it reaches.
-pub fn sight_of(r: Request, place: usize, session: Session, frontend: u8, reach: u8) -> Sight
-    ensures { result ≡ sighted (asked_by r) place session frontend reach }
+pub fn sight_of(r: &Asked, place: usize, session: Session, frontend: u8, reach: u8) -> Sight
+    ensures { result ≡ sighted (asked_by r.now) place session frontend reach }
 {
     Sight {
         method: r.method,
         absent: is_absent(r.session),
-        stream: r.stream,
+        stream: r.stream.unwrap_or(0),
         fe: r.codes[1],
         src: r.codes[0],
-        query: r.query.start < r.query.end,
+        query: r.query.is_some(),
         port: r.transport.unwrap_or(0),
         place,
         session,

@@ -24,8 +24,9 @@ use Rattle.scan.proofs.Compares.{alike_long, alike_equal}
 use Rattle.digits.specs.Reading.{digit_of, are_digits, spelled, at_least, read_number}
 use Rattle.digits.specs.declared.Zeros.TheVariants.{Refused}
 use Rattle.target.specs.Uri.{starts_with, rest_of, is_port, stream_of_path, stream_named, host_of, has_query, query_of, is_uri}
-use Rattle.target.specs.Steps.{question, slash, port_colon, is_host, UriIs, is_port_number, host_end}
-use Rattle.std.specs.Prelude.{Option, Some, None, IfSome, Option, Some, None, is_some}
+use Rattle.target.specs.Steps.{question, slash, port_colon, is_host, unless, stream_in, UriIs, is_port_number, host_end}
+use Rattle.std.specs.Prelude.{Option, Some, None, IfSome, is_some, option_and_then}
+use Rattle.digits.proofs.Limits.{number_between}
 use Rattle.std.specs.Bool.{then_some}
 
 -- A TEXT THAT STARTS WITH ANOTHER is no shorter
@@ -79,23 +80,42 @@ host_none a e = go (is_host a && is_port a) e
     go false q = refl
 
 -- THE PATH
-pub stream_none : (p : List ℕ) → length p ≡ 0 → Some 0 ≡ stream_of_path p
+module _ (p : List ℕ) {t : Bool} (e : t ≡ starts_with (text "stream=") p) where
+  pub stream_not : not t ≡ true → None ≡ stream_in p
+  stream_not y = rw (sym e ∙ not-true t y)
+
+  pub stream_is : not t ≡ false → {v : Option ℕ} → v ≡ at_least 1 (read_number Refused 5 65535 (part 7 (length p) p)) → v ≡ stream_in p
+  stream_is y {v} q = q ∙ rw (part_rest 7 (length p) p (omega arith), sym e ∙ not-false t y)
+
+-- what is read of a path, which is none where the path is empty, and what that says of the meaning
+pub record PathIs (p : List ℕ) (r : Option ℕ) : Type 0 where
+  pub form : is_some (stream_of_path p) ≡ true
+  pub stream : r ≡ option_and_then (unless 0) (stream_of_path p)
+
+pub path_none : (p : List ℕ) → length p ≡ 0 → PathIs p None
 unfolding stream_of_path
-stream_none [] h = refl
-stream_none (x ∷ p) h = absurd (omega arith)
+path_none [] h = record { form = refl; stream = refl }
+path_none (x ∷ p) h = absurd (omega arith)
 
-stream_by : (p : List ℕ) → (length p ≡ 0 → ⊥) → {t : Bool} → t ≡ starts_with (text "stream=") p
-    → stream_of_path p ≡ cond t (at_least 1 (read_number Refused 5 65535 (drop 7 p))) None
+path_by : (p : List ℕ) → (length p ≡ 0 → ⊥) → stream_of_path p ≡ stream_in p
 unfolding stream_of_path
-stream_by [] n e = absurd (n refl)
-stream_by (x ∷ p) n e = rw e
+path_by [] n = absurd (n refl)
+path_by (x ∷ p) n = refl
 
-module _ (p : List ℕ) (n : length p ≡ 0 → ⊥) {t : Bool} (e : t ≡ starts_with (text "stream=") p) where
-  pub stream_not : not t ≡ true → None ≡ stream_of_path p
-  stream_not y = sym (stream_by p n e ∙ rw (not-true t y))
+pub path_not : (p : List ℕ) → (length p ≡ 0 → ⊥) → stream_in p ≡ None → is_some (stream_of_path p) ≡ false
+path_not p n e = rw (path_by p n, e)
 
-  pub stream_is : not t ≡ false → {v : Option ℕ} → v ≡ at_least 1 (read_number Refused 5 65535 (part 7 (length p) p)) → v ≡ stream_of_path p
-  stream_is y {v} q = q ∙ rw (part_rest 7 (length p) p (omega arith)) (sym (stream_by p n e ∙ rw (not-false t y)))
+pub path_some : (p : List ℕ) → (length p ≡ 0 → ⊥) → {j : ℕ} → stream_in p ≡ Some j → PathIs p (Some j)
+path_some p n {j} e =
+    let least : 1 ≤ j = by (starts_with (text "stream=") p) e in
+    record { form = rw (path_by p n, e); stream = rw (path_by p n, e, ne_eqb j 0 (λ z. omega arith)) }
+  where
+    at_one : (r : Option ℕ) → IfSome r (λ v. (1 ≤ v) × (v ≤ 65535)) → r ≡ Some j → 1 ≤ j
+    at_one r h q = (rw q at h).0
+
+    by : (t : Bool) → cond t (at_least 1 (read_number Refused 5 65535 (drop 7 p))) None ≡ Some j → 1 ≤ j
+    by true q = at_one (at_least 1 (read_number Refused 5 65535 (drop 7 p))) (number_between Refused 5 1 65535 (drop 7 p)) q
+    by false q = cc
 
 -- THE WHOLE
 -- a host with its port, and the digits of a number, hold no question mark
@@ -293,50 +313,57 @@ module _ (u : List ℕ) {t : Bool} (s : t ≡ starts_with scheme u) (y : not t �
             let d : Holds (rest u) (host_of u) 0 h = rw (zero-add h) at (holds_inside 0 k (rest u) refl (omega arith) f.within c) in
             holds_inside 7 (length u) u refl scheme_long (omega arith) d
 
-        module _ {v : Option ℕ} (p : v ≡ stream_of_path (part 0 m (path k u))) where
-          stream_named_law : v ≡ stream_named u
-          stream_named_law = p ∙ ap stream_of_path path_is
+        by_stream : is_uri u ≡ is_some (stream_of_path (part 0 m (path k u)))
+        unfolding is_uri
+        by_stream =
+            let b = host_is (front k u) e in
+            let q : 7 ≤ question u = omega (arith, marked) in
+            all_true (starts_with scheme (before 63 u)) (has 47 (rest_of u)) (is_host (before 47 (rest_of u))) (is_port (before 47 (rest_of u))) (is_some (stream_named u)) (scheme_body u q ∙ sym s ∙ not-false t y) has_slash (ap is_host (same_front has_slash).1 ∙ b.0) (ap is_port (same_front has_slash).1 ∙ b.1)
+            ∙ ap (λ p. is_some (stream_of_path p)) (sym path_is)
 
-          by_stream : is_uri u ≡ is_some v
-          unfolding is_uri
-          by_stream =
-              let b = host_is (front k u) e in
-              let q : 7 ≤ question u = omega (arith, marked) in
-              all_true (starts_with scheme (before 63 u)) (has 47 (rest_of u)) (is_host (before 47 (rest_of u))) (is_port (before 47 (rest_of u))) (is_some (stream_named u)) (scheme_body u q ∙ sym s ∙ not-false t y) has_slash (ap is_host (same_front has_slash).1 ∙ b.0) (ap is_port (same_front has_slash).1 ∙ b.1)
-              ∙ ap is_some (sym stream_named_law)
+        -- the path up to the question mark has so many bytes
+        part_there : length (part 0 m (path k u)) ≡ 0 → m ≡ 0
+        part_there h = omega (arith, part_length 0 m (path k u) g.within)
 
-          pub no_stream_law : v ≡ None → is_uri u ≡ false
-          no_stream_law z = by_stream ∙ ap is_some z
+        pub no_stream_law : (m ≡ 0 → ⊥) → {v : Option ℕ} → v ≡ stream_in (part 0 m (path k u)) → v ≡ None → is_uri u ≡ false
+        no_stream_law n p z = by_stream ∙ path_not (part 0 m (path k u)) (λ h. n (part_there h)) (sym p ∙ z)
 
-          asked_is : ltb m (length (path k u)) ≡ has_query u
-          asked_is =
-              let d : length (path k u) ≡ length (rest u) - (k + 1) = part_length (k + 1) (length (rest u)) (rest u) (omega arith) in
-              let w = rest_length in
-              let q = marked in
-              by_cases (dec_lt m (length (path k u))) (λ a. lt-ltb m (length (path k u)) a ∙ sym (lt-ltb (question u) (length u) (omega arith)))
-              (λ a. le-ltb m (length (path k u)) (omega arith) ∙ sym (le-ltb (question u) (length u) (omega arith)))
+        -- what is read of the path up there
+        pub stream_there : (m ≡ 0 → ⊥) → {v : Option ℕ} → v ≡ stream_in (part 0 m (path k u)) → {j : ℕ} → v ≡ Some j → PathIs (part 0 m (path k u)) (Some j)
+        stream_there n p z = path_some (part 0 m (path k u)) (λ h. n (part_there h)) (sym p ∙ z)
 
-          -- where the query stands, if there is one
-          query_held : has_query u ≡ true → Holds u (query_of u) (7 + (k + 1) + m + 1) (length u)
-          query_held b =
-              record {
-                order = omega (arith, marked, ltb-true (question u) (length u) b);
-                within = omega arith;
-                is = part_rest (7 + (k + 1) + m + 1) (length u) u (omega arith) ∙ ap (λ i. drop (i + 1) u) (sym marked);
-              }
+        pub stream_missing : m ≡ 0 → PathIs (part 0 m (path k u)) None
+        stream_missing z = path_none (part 0 m (path k u)) (omega (arith, part_length 0 m (path k u) g.within))
 
-          query_there : (t : Bool) → t ≡ has_query u → IfSome (then_some t (7 + (k + 1) + m + 1)) (λ start. Holds u (query_of u) start (length u))
-          query_there true b = query_held (sym b)
-          query_there false b = tt
+        asked_is : ltb m (length (path k u)) ≡ has_query u
+        asked_is =
+            let d : length (path k u) ≡ length (rest u) - (k + 1) = part_length (k + 1) (length (rest u)) (rest u) (omega arith) in
+            let w = rest_length in
+            let q = marked in
+            by_cases (dec_lt m (length (path k u))) (λ a. lt-ltb m (length (path k u)) a ∙ sym (lt-ltb (question u) (length u) (omega arith)))
+            (λ a. le-ltb m (length (path k u)) (omega arith) ∙ sym (le-ltb (question u) (length u) (omega arith)))
 
-          pub uri_is : {j : ℕ} {r : Option ℕ} → v ≡ Some j → r ≡ then_some (ltb m (length (path k u))) (7 + (k + 1) + m + 1)
-              → UriIs u (record { query = r; stream = j; host = record { start = 7; end = 7 + h } })
-          uri_is {j} z d =
-              record {
-                form = by_stream ∙ ap is_some z;
-                stream = sym z ∙ stream_named_law;
-                host = host_uri;
-                starts = refl;
-                place = d ∙ ap₂ (λ t i. then_some t (i + 1)) asked_is (sym marked);
-                query = rw d (query_there (ltb m (length (path k u))) asked_is);
-              }
+        -- where the query stands, if there is one
+        query_held : has_query u ≡ true → Holds u (query_of u) (7 + (k + 1) + m + 1) (length u)
+        query_held b =
+            record {
+              order = omega (arith, marked, ltb-true (question u) (length u) b);
+              within = omega arith;
+              is = part_rest (7 + (k + 1) + m + 1) (length u) u (omega arith) ∙ ap (λ i. drop (i + 1) u) (sym marked);
+            }
+
+        query_there : (t : Bool) → t ≡ has_query u → IfSome (then_some t (7 + (k + 1) + m + 1)) (λ start. Holds u (query_of u) start (length u))
+        query_there true b = query_held (sym b)
+        query_there false b = tt
+
+        pub uri_is : {j r : Option ℕ} → PathIs (part 0 m (path k u)) j → r ≡ then_some (ltb m (length (path k u))) (7 + (k + 1) + m + 1)
+            → UriIs u (record { query = r; stream = j; host = record { start = 7; end = 7 + h } })
+        uri_is {j} z d =
+            record {
+              form = by_stream ∙ z.form;
+              stream = z.stream ∙ ap (λ p. option_and_then (unless 0) (stream_of_path p)) path_is;
+              host = host_uri;
+              starts = refl;
+              place = d ∙ ap₂ (λ t i. then_some t (i + 1)) asked_is (sym marked);
+              query = rw d (query_there (ltb m (length (path k u))) asked_is);
+            }

@@ -1,12 +1,13 @@
 // What a request is aimed at: the three parts of its request line, and its URI's form, stream, host and query. Every function has an
 // answer for all bytes. A request line's bytes are looked at once each (those of the sixteen in which the second space stands twice); a
-// URI's at most twice each (those of its host for `/` and by their class), and those of its query never. No byte is copied.
+// URI's at most twice each (those of its host for `/` and by their class), but three times the byte behind its host and the first digit of a
+// stream's number, and never those of its query. No byte is copied.
 #![tactic(auto)]
 
 ghost use Rattle.std.specs.Prelude.{◌≡◌, false, MatchOption};
 ghost use Rattle.target.specs.Line.{is_three};
-ghost use Rattle.target.specs.Steps.{PartsAre, is_port_number, host_end, UriIs};
-ghost use Rattle.target.specs.Uri.{starts_with, stream_of_path, is_uri};
+ghost use Rattle.target.specs.Steps.{PartsAre, is_port_number, host_end, stream_in, UriIs};
+ghost use Rattle.target.specs.Uri.{starts_with, is_uri};
 
 use digits::Zeros;
 use scan::{Case, Class, Span};
@@ -24,8 +25,8 @@ pub struct Parts {
 pub struct Uri {
     // Where its query starts, if one was sent; it ends where the URI ends.
     pub query: Option<usize>,
-    // The stream named, 1 to 65535, or 0.
-    pub stream: u32,
+    // The stream named, 1 to 65535.
+    pub stream: Option<u32>,
     pub host: Span,
 }
 
@@ -90,14 +91,11 @@ fn host_end(a: &[u8]) -> Option<usize>
     is_port(&a[port..]).then_some(k)
 }
 
-// The stream that a path names, 0 where the path is empty.
-#[tactic(auto, using(crate::proofs::Uris::stream_none, crate::proofs::Uris::stream_not))]
+// The stream that a path names which is not empty.
+#[tactic(auto, using(crate::proofs::Uris::stream_not))]
 fn stream_in(path: &[u8]) -> Option<u32>
-    ensures { result ≡ stream_of_path path.now }
+    ensures { result ≡ stream_in path.now }
 {
-    if path.is_empty() {
-        return Some(0);
-    }
     if !starts_with(b"stream=", path) {
         return None;
     }
@@ -120,7 +118,11 @@ pub fn read_uri(s: &[u8]) -> Option<Uri>
     let next = slash + 1;
     let path = &rest[next..];
     let mark = scan::first_in(path, Class::Is(b'?'));
-    let stream = stream_in(&path[0..mark])?;
+    let stream = if mark == 0 {
+        None
+    } else {
+        Some(stream_in(&path[0..mark])?)
+    };
     Some(Uri {
         query: (mark < path.len()).then_some(7 + next + mark + 1),
         stream,

@@ -1,5 +1,5 @@
-use mathlib.Core.Path.{◌≡◌, ap}
-use mathlib.Core.Bool.{Bool, true}
+use mathlib.Core.Path.{◌≡◌, ap, sym}
+use mathlib.Core.Bool.{Bool, true, false}
 use mathlib.Core.List.{List}
 use Prim.Native.Nat.{ℕ}
 use borrow.Author.Rules.{rules}
@@ -8,19 +8,18 @@ use Rattle.scan.specs.Lists.{first}
 use Rattle.scan.specs.Found.{is_word}
 use Rattle.scan.specs.declared.Case.TheVariants.{Counts}
 use Rattle.scan.proofs.Places.{None, miss, none, place_alike, place_none}
-use Rattle.aim.specs.declared.Method.TheVariants.{Other}
-use Rattle.reader.specs.Heads.{method_in, method_at}
+use Rattle.reader.specs.Heads.{IsMethod, is_other, method_in, method_at}
 use Rattle.std.proofs.Common.{◌≡◌}
 use Rattle.reader.proofs.method_in.Goals as goal
 
 abbrev methods : List ℕ
 methods = text "OPTIONS SETUP PLAY TEARDOWN"
 
-method-alike : (w m : List ℕ) {t : Bool} → t ≡ are_alike Counts w m → t ≡ true → method_at (first (is_word Counts w) (cut 32 methods)) ≡ method_in m
-method-alike w m a y = ap method_at (place_alike Counts methods w m a y)
+method-alike : (w m : List ℕ) {t : Bool} → t ≡ are_alike Counts w m → t ≡ true → is_other (method_at (first (is_word Counts w) (cut 32 methods))) ≡ false → IsMethod m (method_at (first (is_word Counts w) (cut 32 methods)))
+method-alike w m a y n = record { is = ap method_at (place_alike Counts methods w m a y); named = n }
 
-method-none : (m : List ℕ) → None Counts m (cut 32 methods) → Other ≡ method_in m
-method-none m n = ap method_at (place_none Counts methods n)
+method-none : (m : List ℕ) → None Counts m (cut 32 methods) → is_other (method_in m) ≡ true
+method-none m n = ap is_other (sym (ap method_at (place_none Counts methods n)))
 
 pub returns-then-are_alike : goal.returns-then-are_alike
 returns-then-are_alike c = search (method-alike (text "OPTIONS"), rules)
