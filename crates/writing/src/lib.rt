@@ -3,7 +3,7 @@
 #![tactic(auto)]
 
 ghost use Rattle.std.specs.Prelude.{◌≡◌, ◌+◌, ◌≤◌, ◌<◌, length, take};
-ghost use Rattle.writing.specs.Writing.{shown, numeral, width, decimal, hex8, dotted};
+ghost use Rattle.writing.specs.Writing.{shown, numeral, width, decimal, hex8, dotted, written};
 ghost use Rattle.writing.specs.Wrote.{Wrote, Puts, starting, end_of};
 
 // A lent buffer, and the place in it where the next text is put. Behind what did not fit that is past the buffer's end, and nothing more is put.
@@ -30,8 +30,7 @@ impl<'a> Writer<'a> {
         self.at.min(self.buf.len() + 1)
     }
 
-    // Puts a text, as far as the buffer reaches. By a loop: of a text of the program it becomes stores of numbers, where `copy_from_slice` tests at each call
-    // whether the two overlap, 22 to 54 instructions more in an answer.
+    // Puts a text, as far as the buffer reaches.
     #[inline(always)]
     pub fn text(&mut self, t: &[u8])
         ensures { Puts self.old t.now self.new }
@@ -45,9 +44,7 @@ impl<'a> Writer<'a> {
             self.at = at + t.len();
             return;
         }
-        for (i, &x) in t.iter().enumerate() {
-            self.buf[at + i] = x;
-        }
+        store(self.buf, at, t);
         self.at = at + t.len();
     }
 
@@ -118,6 +115,18 @@ impl<'a> Writer<'a> {
         self.decimal(address / 256 % 256);
         self.text(b".");
         self.decimal(address % 256);
+    }
+}
+
+// Puts a text that fits at a place of a buffer. By a loop: of a text of the program it becomes stores of numbers, where `copy_from_slice` tests at each
+// call whether the two overlap, 22 to 54 instructions more in an answer; and over a buffer that is handed in, since C need then have no memmove.
+#[inline(always)]
+fn store(buf: &mut [u8], at: usize, t: &[u8])
+    requires { at + length t.now ≤ length buf.old }
+    ensures { buf.new ≡ written buf.old at t.now }
+{
+    for (i, &x) in t.iter().enumerate() {
+        buf[at + i] = x;
     }
 }
 
