@@ -6,6 +6,7 @@ use native.Mathlib.Decide.{dec_lt}
 use native.Mathlib.Nat.{add-zero, add-suc, suc-add}
 use native.Mathlib.Omega.{arith}
 use lib.ListN.{length, take, drop, get_or, set, length-append, length-set, take-append-drop, drop_of_length-le}
+use Rattle.std.proofs.lemmas.List.{length-take-le}
 use lib.Seq.{drop-drop, sets, length-sets, take_all, take-nil, take-suc-set, drop-set-lt, set_out, set_comm}
 use Rattle.scan.proofs.Bools.{by_cases}
 use Rattle.scan.proofs.Loops.{turn, end}
@@ -145,11 +146,12 @@ pub storing_end : {b t d : List ℕ} {at i : ℕ} → Storing b at t d i → len
 storing_end {b} {t} {d} {at} {i} s h = sym (end (sets d (at + i)) t i h) ∙ s.same
 
 -- as much as fits of a text that does not
-pub written_some : (b : List ℕ) (at : ℕ) (t : List ℕ) {m : List ℕ} → at ≤ length b → length b - at < length t → m ≡ take (length b - at) t → take at b ++ (m ++ drop (length b - at) (drop at b)) ≡ written b at t
+pub written_front : (b : List ℕ) (at : ℕ) (t : List ℕ) {u : List ℕ} → at ≤ length b → length b - at < length t → u ≡ take (length b - at) t → written b at u ≡ written b at t
 unfolding written
-written_some b at t h l same =
-    let n : at + (length b - at) ≡ length b = omega arith in
-    rw (same, drop-drop, n, drop_of_length-le b {i = length b} (omega arith), drop_of_length-le b {i = at + length t} (omega arith))
+written_front b at t h l same =
+    let r = length b - at in
+    let k : length (take r t) ≡ r = length-take-le r t (omega arith) in
+    rw (same, take_all r (take r t) (omega (arith, k)), drop_of_length-le b {i = at + length (take r t)} (omega (arith, k)), drop_of_length-le b {i = at + length t} (omega arith))
 
 -- the same text by another name
 pub wrote_as : {b d t u : List ℕ} {at next : ℕ} → t ≡ u → Wrote b at t d next → Wrote b at u d next

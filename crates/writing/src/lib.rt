@@ -2,7 +2,7 @@
 // numbers, and writes each byte once.
 #![tactic(auto)]
 
-ghost use Rattle.std.specs.Prelude.{◌≡◌, ◌+◌, ◌≤◌, ◌<◌, length, take};
+ghost use Rattle.std.specs.Prelude.{◌≡◌, ◌+◌, ◌-◌, ◌≤◌, ◌<◌, length};
 ghost use Rattle.writing.specs.Writing.{shown, numeral, width, decimal, hex8, dotted, written};
 ghost use Rattle.writing.specs.Wrote.{Wrote, Puts, starting, end_of};
 
@@ -40,7 +40,7 @@ impl<'a> Writer<'a> {
             return;
         }
         if len - at < t.len() {
-            fill(&mut self.buf[at..], t);
+            store_front(self.buf, at, t);
             self.at = at + t.len();
             return;
         }
@@ -130,13 +130,14 @@ fn store(buf: &mut [u8], at: usize, t: &[u8])
     }
 }
 
-// Fills what is left of a buffer with the front of a text that does not fit.
+// Puts the front of a text that does not fit.
 #[cold]
-fn fill(left: &mut [u8], t: &[u8])
-    requires { length left.old < length t.now }
-    ensures { left.new ≡ take (length left.old) t.now }
+fn store_front(buf: &mut [u8], at: usize, t: &[u8])
+    requires { (at ≤ length buf.old) × (length buf.old - at < length t.now) }
+    ensures { buf.new ≡ written buf.old at t.now }
 {
-    left.copy_from_slice(&t[..left.len()]);
+    let room = buf.len() - at;
+    store(buf, at, &t[..room]);
 }
 
 // The byte that shows a digit, upper-case.
