@@ -60,10 +60,10 @@
  * Bytes of stack that each call takes, with its arguments on it and its return address. docs/FIRMWARE.md says how that was measured. They are of this
  * archive: one of the same version that another kit built takes others (its MANIFEST names the kit).
  */
-#define SATBOX_STACK_REQUEST 4456u
-#define SATBOX_STACK_TICK 3280u
-#define SATBOX_STACK_ORDER 304u
-#define SATBOX_STACK_COLLECT 3280u
+#define SATBOX_STACK_REQUEST 4304u
+#define SATBOX_STACK_TICK 3232u
+#define SATBOX_STACK_ORDER 256u
+#define SATBOX_STACK_COLLECT 3232u
 #define SATBOX_STACK_MAKE 104u
 #define SATBOX_STACK_WRITE_RECORD 72u
 #define SATBOX_STACK_READ_RECORD 32u

@@ -227,33 +227,33 @@ static bool count_case(const struct bench *b)
 
 /* A bound is some 90 above what was counted: one copy more of the box, which has the price of 103, is too many. */
 static const struct bench benches[] = {
-    {"OPTIONS", write_options, 0, 150, CLOCK, 2858, 2190},
-    {"OPTIONS", write_options, 8, 150, CLOCK, 3680, 3263},
-    {"OPTIONS", write_options, 32, 150, CLOCK, 5654, 6703},
+    {"OPTIONS", write_options, 0, 150, CLOCK, 2757, 2190},
+    {"OPTIONS", write_options, 8, 150, CLOCK, 3602, 3263},
+    {"OPTIONS", write_options, 32, 150, CLOCK, 5592, 6703},
     {"SETUP", write_setup, 0, 150, CLOCK, 0, 4375},
-    {"SETUP", write_setup, 8, 150, CLOCK, 6383, 5172},
+    {"SETUP", write_setup, 8, 150, CLOCK, 6197, 5172},
     {"SETUP", write_setup, 32, 150, CLOCK, 0, 0},
     {"PLAY", write_play, 1, 150, CLOCK, 0, 3982},
-    {"PLAY", write_play, 8, 150, CLOCK, 5399, 4489},
+    {"PLAY", write_play, 8, 150, CLOCK, 5303, 4489},
     {"PLAY", write_play, 32, 150, CLOCK, 0, 7773},
     {"TEARDOWN", write_teardown, 1, 150, CLOCK, 0, 3054},
-    {"TEARDOWN", write_teardown, 8, 150, CLOCK, 4016, 3430},
+    {"TEARDOWN", write_teardown, 8, 150, CLOCK, 3970, 3430},
     {"TEARDOWN", write_teardown, 32, 150, CLOCK, 0, 6868},
-    {"T. of four", write_closing, 8, 150, CLOCK, 4332, 0},
+    {"T. of four", write_closing, 8, 150, CLOCK, 4284, 0},
     {"bad", write_bad, 0, 150, CLOCK, 0, 0},
-    {"bad", write_bad, 8, 150, CLOCK, 4370, 0},
+    {"bad", write_bad, 8, 150, CLOCK, 4241, 0},
     {"OPTIONS", write_options, 0, 600, CLOCK, 0, 4546},
-    {"OPTIONS", write_options, 8, 600, CLOCK, 4996, 5614},
+    {"OPTIONS", write_options, 8, 600, CLOCK, 4918, 5614},
     {"SETUP", write_setup, 8, 600, CLOCK, 0, 0},
     {"PLAY", write_play, 8, 600, CLOCK, 0, 0},
     {"OPTIONS", write_options, 0, 2048, CLOCK, 0, 12147},
-    {"OPTIONS", write_options, 8, 2048, CLOCK, 8995, 13196},
+    {"OPTIONS", write_options, 8, 2048, CLOCK, 8917, 13196},
     {"SETUP", write_setup, 8, 2048, CLOCK, 0, 0},
     {"PLAY", write_play, 8, 2048, CLOCK, 0, 0},
-    {"tick", NULL, 0, 0, CLOCK, 1224, 999},
-    {"tick", NULL, 8, 0, CLOCK, 1925, 1740},
-    {"tick", NULL, 32, 0, CLOCK, 3899, 5024},
-    {"tick, all", NULL, 32, 0, CLOCK + PLAIN_TIMEOUT, 6833, 8670}
+    {"tick", NULL, 0, 0, CLOCK, 1122, 999},
+    {"tick", NULL, 8, 0, CLOCK, 1848, 1740},
+    {"tick", NULL, 32, 0, CLOCK, 3838, 5024},
+    {"tick, all", NULL, 32, 0, CLOCK + PLAIN_TIMEOUT, 6463, 8670}
 };
 
 /* Counts a request that asks for some attributes or PIDs, with two sessions open. */
